@@ -1,0 +1,7 @@
+pub mod Labels
+pub mod Lines
+pub mod Blocks
+pub mod Progress
+pub mod Reading
+pub mod Draft
+pub mod Reader

@@ -1,0 +1,33 @@
+//! Why a block is refused.
+
+/// What is wrong with a block, in the order in which the causes count on one line.
+#[derive(Clone, Copy, Debug, PartialEq, Eq)]
+pub enum Why {
+    /// A constraint line, which is not read yet.
+    Later,
+    /// A line that is not blank has more than 65,536 bytes.
+    LongLine,
+    /// The count line is no number, or there is none.
+    BadCount,
+    /// An edge line has another number of fields than the model asks for.
+    BadFields,
+    /// A weight is no number, or is too large.
+    BadWeight,
+    /// A lower bound is above its upper bound.
+    BadRange,
+    /// An edge stands twice.
+    RepeatedEdge,
+    /// There are more than 256 edges.
+    TooManyEdges,
+    /// An edge closes a cycle with the edges before it.
+    Cycle,
+    /// An inner vertex receives another weight than it sends on.
+    Unconserved,
+}
+
+/// A refusal, with the number of the line that it names, counted from 1 over the whole input.
+#[derive(Clone, Copy, Debug, PartialEq, Eq)]
+pub struct Refusal {
+    pub line: u64,
+    pub why: Why,
+}
