@@ -4,4 +4,5 @@ pub mod Blocks
 pub mod Progress
 pub mod Reading
 pub mod Draft
+pub mod OpenLine
 pub mod Reader

@@ -4,10 +4,11 @@
 mod block;
 mod draft;
 mod labels;
+mod open_line;
 mod reader;
 mod refusal;
 
 pub use block::{Block, RawGraph};
 pub use labels::Labels;
-
+pub use reader::BlockReader;
 pub use refusal::{Refusal, Why};
