@@ -1,0 +1,4 @@
+pub mod Growing
+pub mod Cutting
+pub mod BlankText
+pub mod Steps
