@@ -1,4 +1,6 @@
 pub mod Growing
 pub mod Cutting
 pub mod BlankText
+pub mod OpenLine
+pub mod Groups
 pub mod Steps
