@@ -4,10 +4,11 @@
 mod block;
 mod draft;
 mod labels;
+mod laws;
 mod reader;
 mod refusal;
 
 pub use block::{Block, RawGraph};
 pub use labels::Labels;
-
+pub use laws::complete_blocks_stay;
 pub use refusal::{Refusal, Why};
