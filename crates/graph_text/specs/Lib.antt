@@ -5,4 +5,5 @@ pub mod Progress
 pub mod Reading
 pub mod Draft
 pub mod OpenLine
+pub mod Cutter
 pub mod Reader

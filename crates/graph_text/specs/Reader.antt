@@ -3,19 +3,18 @@ use Rattle.std.specs.Prelude.{◌≡◌, ◌⊎◌, ℕ, ◌+◌, ◌<◌, List,
 use Rattle.decomposition.specs.declared.Mode.{Mode}
 use Rattle.graph_text.specs.declared.block.Block.{Block}
 use Rattle.graph_text.specs.declared.reader.BlockReader.{BlockReader}
-use Rattle.graph_text.specs.Blocks.{TextBlock, blocks, complete, name_of, name_of_lines}
-use Rattle.graph_text.specs.Draft.{Drafts}
-use Rattle.graph_text.specs.OpenLine.{HoldsLine}
+use Rattle.graph_text.specs.Blocks.{blocks, complete}
 use Rattle.graph_text.specs.Progress.{left_by}
-use Rattle.graph_text.specs.Reading.{numbered_lines, read}
+use Rattle.graph_text.specs.Cutter.{Holds}
+pub use Rattle.graph_text.specs.Cutter.{handed, Completes, Continues}
 
 -- the model that blocks are read for
 abbrev pub mode_of : BlockReader → Mode
-mode_of reader = reader.mode
+mode_of reader = reader.cutter.mode
 
 -- the number of the line in progress
 abbrev pub line_of : BlockReader → ℕ
-line_of reader = reader.line
+line_of reader = reader.cutter.line
 
 -- the complete block that waits to be taken
 abbrev pub waiting_of : BlockReader → Option Block
@@ -29,30 +28,9 @@ has_failed reader = reader.has_failed
 abbrev pub has_finished : BlockReader → Bool
 has_finished reader = reader.has_finished
 
--- The reader stands for these bytes: it holds what they leave. Of the block in progress that is the number of its
--- first line, its name, and a draft of its lines. The block that waits is apart from this.
+-- The reader stands for these bytes: it holds what they leave. The block that waits is apart from this.
 pub record StandsFor (reader : BlockReader) (bytes : List ℕ) : Type 0 where
-  pub blocks_are : reader.blocks ≡ (left_by bytes).blocks
-  pub line_is : reader.line ≡ (left_by bytes).line
-  pub holds_line : HoldsLine reader.open_line (left_by bytes).open_line
-  pub first_is : reader.first + length (left_by bytes).ended ≡ reader.line
-  pub name_is : reader.name ≡ name_of_lines (left_by bytes).ended
-  pub drafts : Drafts reader.mode (numbered_lines reader.first (left_by bytes).ended) reader.draft
-
--- a block as the reader hands it out, with what it is read as
-abbrev pub handed : Mode → TextBlock → Block
-handed mode block = record { index = block.index; line = block.line; name = name_of block; body = read mode block }
-
--- A block came to wait: it is the one by which the second list is longer.
-pub record Completes (mode : Mode) (before after : List TextBlock) (waiting : Option Block) : Type 0 where
-  pub block : TextBlock
-  pub one_more : after ≡ before ++ block ∷ []
-  pub waits : waiting ≡ Some (handed mode block)
-
--- No block came to wait, and the two lists are equal.
-pub record Continues (before after : List TextBlock) (waiting : Option Block) : Type 0 where
-  pub same : after ≡ before
-  pub none : waiting ≡ None
+  pub holds : Holds reader.cutter (left_by bytes)
 
 -- A reader that stood for these bytes took the first n bytes of the piece: up to and with the first `#` that completes
 -- a block, or all of them.

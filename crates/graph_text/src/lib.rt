@@ -2,6 +2,7 @@
 #![tactic(auto)]
 
 mod block;
+mod cutter;
 mod draft;
 mod labels;
 mod laws;

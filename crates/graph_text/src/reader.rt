@@ -1,34 +1,21 @@
 //! The reader of blocks.
 ghost use Rattle.std.specs.Prelude.{◌≡◌, ℕ, ◌+◌, ◌^◌, ◌<◌, ◌≤◌, List, length, true, false, Ok, None, IsErr, IsSome, IfOk, OnOk, OnErr};
+ghost use Rattle.graph_text.specs.Cutter.{IsCounted};
 
 use crate::block::Block;
-use crate::draft::Draft;
-use crate::open_line::OpenLine;
+use crate::cutter::Cutter;
 use dag_net::Mode;
-use flow_io::Bytes;
 use std::alloc::{AllocError, Global};
 
 /// Cuts a text into blocks and reads them, however the bytes of the text are cut into pieces.
 #[derive(Drop)]
 pub struct BlockReader {
-    alloc: Global,
-    mode: Mode,
-    /// How many blocks are complete.
-    blocks: u64,
-    /// The number of the line in progress.
-    line: u64,
-    open_line: OpenLine,
-    /// The number of the first line of the block in progress; that of the line in progress, where none has ended.
-    first: u64,
-    name: Bytes,
-    draft: Draft,
+    cutter: Cutter,
     waiting: Option<Block>,
     has_failed: bool,
     has_finished: bool,
     ghost none_waits: { has_failed ≡ true → waiting ≡ None },
-    ghost few_blocks: { blocks < first },
-    ghost in_order: { first ≤ line },
-    ghost filled_later: { draft.is_filled ≡ true → first < line },
+    ghost counted: { has_failed ≡ false → has_finished ≡ false → IsCounted cutter },
 }
 
 impl BlockReader {
@@ -39,14 +26,7 @@ impl BlockReader {
         ensures { IfOk result (IsNew mode) }
     {
         Ok(BlockReader {
-            alloc,
-            mode,
-            blocks: 0,
-            line: 1,
-            open_line: OpenLine::new(alloc),
-            first: 1,
-            name: Bytes::from_vec(Vec::new(alloc)),
-            draft: Draft::new(alloc, mode),
+            cutter: Cutter::new(alloc, mode),
             waiting: None,
             has_failed: false,
             has_finished: false,
