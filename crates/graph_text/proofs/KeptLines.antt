@@ -246,7 +246,7 @@ long-same n w k m text line h = elim h [
     | inr long ↦ lt-ltb 65536 w (omega arith) ∙ sym (lt-ltb (65536 + (k - m)) (min n (2 ^ 64 - 1)) (omega arith))
   ]
 
-after_blanks-same : (bytes : List ℕ) → BeginsFilled bytes → after_blanks bytes ≡ bytes
+pub after_blanks-same : (bytes : List ℕ) → BeginsFilled bytes → after_blanks bytes ≡ bytes
 after_blanks-same [] begins = refl
 after_blanks-same (b ∷ bytes) begins = skip_none b bytes begins
 

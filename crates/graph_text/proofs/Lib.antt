@@ -7,3 +7,4 @@ pub mod Places
 pub mod Left
 pub mod Steps
 pub mod KeptLines
+pub mod Holding

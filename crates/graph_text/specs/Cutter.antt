@@ -1,13 +1,14 @@
 -- What a cutter of a text holds of it, and the blocks that it completes.
-use Rattle.std.specs.Prelude.{◌≡◌, ◌⊎◌, ℕ, ◌+◌, ◌-◌, ◌<◌, List, [], ◌∷◌, ◌++◌, length, take, drop, Bool, not, ◌&&◌, if◌then◌else◌, Option, Some, None}
+use Rattle.std.specs.Prelude.{◌≡◌, ◌⊎◌, ℕ, ◌+◌, ◌-◌, ◌<◌, List, [], ◌∷◌, ◌++◌, length, take, drop, Bool, not, ◌&&◌, if◌then◌else◌, Option, Some, None, IsTrue, false}
+use Rattle.std.specs.List.{list_all, list_any, take_while}
 use Rattle.decomposition.specs.declared.Mode.{Mode}
 use Rattle.graph_text.specs.declared.block.Block.{Block}
 use Rattle.graph_text.specs.declared.cutter.Cutter.{Cutter}
-use Rattle.graph_text.specs.Lines.{is_hash_line, is_run_line}
+use Rattle.graph_text.specs.Lines.{without_return, is_blank, begins_with_hash, is_hash_line, is_run_line, is_content_line}
 use Rattle.graph_text.specs.Blocks.{TextBlock, complete, name_of, name_of_lines, after_blanks, trimmed}
 use Rattle.graph_text.specs.Draft.{Drafts}
 use Rattle.graph_text.specs.OpenLine.{HoldsLine}
-use Rattle.graph_text.specs.Progress.{Progress, left_by}
+use Rattle.graph_text.specs.Progress.{Progress, left_by, with_line}
 use Rattle.graph_text.specs.Reading.{numbered_lines, read}
 
 -- The block in progress begins at the line of this number, and has these lines.
@@ -27,6 +28,36 @@ pub record Holds (cutter : Cutter) (left : Progress) : Type 0 where
 -- each complete block, and each line of the block in progress that has ended, has a line of its own before the line in progress
 abbrev pub IsCounted : Cutter → Type 0
 IsCounted cutter = cutter.blocks + cutter.ended < cutter.line
+
+-- whether a `#` after blanks completes the block in progress: it has a content line, and the line in progress is blank so far
+abbrev pub MayComplete : Progress → Type 0
+MayComplete left = IsTrue (list_all is_blank left.open_line && list_any is_content_line left.ended)
+
+-- a first byte of these bytes that is no blank does not complete the block in progress
+abbrev pub NoMark : Progress → List ℕ → Type 0
+NoMark left rest = MayComplete left → begins_with_hash (after_blanks rest) ≡ false
+
+-- the bytes begin with these: blanks and a `#`
+pub record IsMark (rest mark : List ℕ) : Type 0 where
+  pub front : take (length mark) rest ≡ mark
+  pub hash : mark ≡ take_while is_blank rest ++ 35 ∷ []
+
+-- what is left when a block is completed by blanks and a `#`
+abbrev pub next_begun : Progress → List ℕ → Progress
+next_begun left mark = record { blocks = left.blocks + 1; line = left.line; open_line = left.open_line ++ mark; ended = [] }
+
+-- all but the block in progress is as it was
+pub record KeepsPlace (old new : Cutter) : Type 0 where
+  pub mode_kept : new.mode ≡ old.mode
+  pub blocks_kept : new.blocks ≡ old.blocks
+  pub line_kept : new.line ≡ old.line
+  pub open_line_kept : new.open_line ≡ old.open_line
+  pub ended_kept : new.ended ≡ old.ended
+
+-- The line in progress was given to the block in progress, where it is a line of it.
+pub record Adds (cutter : Cutter) (left : Progress) (is_added : Bool) : Type 0 where
+  pub lines_are : with_line left.ended (without_return left.open_line) ≡ (if is_added then left.ended ++ without_return left.open_line ∷ [] else left.ended)
+  pub block_is : HoldsBlock cutter (left.line - length left.ended) (with_line left.ended (without_return left.open_line))
 
 -- the name that a first line gives its block, from what is shown of the line
 abbrev pub name_shown : Bool → List ℕ → List ℕ

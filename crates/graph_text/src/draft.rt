@@ -1,8 +1,8 @@
 //! What is known of a block while its lines come.
-ghost use Rattle.std.specs.Prelude.{◌≡◌, ◌<◌, List, [], ◌∷◌, ◌++◌, length, All, IfOk, OnOk, false, None};
+ghost use Rattle.std.specs.Prelude.{◌≡◌, ◌<◌, List, [], ◌∷◌, ◌++◌, length, ◌==◌, ◌||◌, not, All, IfOk, OnOk, false, None};
 ghost use Rattle.std.specs.List.{list_any};
 ghost use Rattle.decomposition.specs.declared.Mode.{Mode as Model};
-ghost use Rattle.graph_text.specs.Reading.{Line, filled_lines, read_lines};
+ghost use Rattle.graph_text.specs.Reading.{Line, filled_lines, run_lines, read_lines};
 
 use crate::block::RawGraph;
 use crate::labels::Labels;
@@ -47,6 +47,14 @@ impl Draft {
         ensures { (mode : Model) (lines : List Line) → Drafts mode lines self.now → result ≡ list_any is_content lines }
     {
         self.is_filled
+    }
+
+    /// Whether the lines are a graph: a content line has come, or a `#S` line.
+    pub fn is_graph(&self) -> bool
+        ensures { (mode : Model) (lines : List Line) → Drafts mode lines self.now
+            → result ≡ (list_any is_content lines || not (length (run_lines lines) == 0)) }
+    {
+        self.is_filled || self.later.is_some()
     }
 
     /// Takes the next line: its number, whether it is too long, and a text with its fields. After an `Err` the draft is of no use.

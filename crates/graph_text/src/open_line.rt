@@ -123,4 +123,11 @@ impl OpenLine {
         let removed = kept.len() - text.len();
         (self.length > MOST_BYTES + removed, text)
     }
+
+    /// Whether the line is blank, where it ends here.
+    pub fn is_blank_line(&self) -> bool
+        ensures { (bytes : List ℕ) → HoldsLine self.now bytes → result ≡ is_blank_line (without_return bytes) }
+    {
+        without_return(self.text.as_slice()).is_empty()
+    }
 }
