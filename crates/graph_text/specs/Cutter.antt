@@ -46,6 +46,11 @@ pub record IsMark (rest mark : List ℕ) : Type 0 where
 abbrev pub next_begun : Progress → List ℕ → Progress
 next_begun left mark = record { blocks = left.blocks + 1; line = left.line; open_line = left.open_line ++ mark; ended = [] }
 
+-- these bytes more have come, and completed no block
+pub record GoesOn (cutter : Cutter) (bytes more : List ℕ) : Type 0 where
+  pub holds : Holds cutter (left_by (bytes ++ more))
+  pub same : complete (bytes ++ more) ≡ complete bytes
+
 -- all but the block in progress is as it was
 pub record KeepsPlace (old new : Cutter) : Type 0 where
   pub mode_kept : new.mode ≡ old.mode

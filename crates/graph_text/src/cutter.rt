@@ -49,7 +49,7 @@ pub struct Cutter {
 }
 
 impl Cutter {
-    ghost use Rattle.graph_text.specs.Cutter.{Holds, HoldsBlock, IsCounted, NoMark, MayComplete, IsMark, Adds, KeepsPlace, next_begun, Completes, Continues, Cuts, handed};
+    ghost use Rattle.graph_text.specs.Cutter.{Holds, HoldsBlock, IsCounted, NoMark, MayComplete, IsMark, Adds, GoesOn, KeepsPlace, next_begun, Completes, Continues, Cuts, handed};
 
     /// Nothing of a text yet. Takes no memory.
     pub fn new(alloc: Global, mode: Mode) -> Cutter
@@ -198,7 +198,7 @@ impl Cutter {
         requires some { 0 < length rest.now }
         ensures count { IfOk result (λ n. (0 < n) × (n ≤ length rest.now)) }
         ensures takes { IfOk result (λ n. (bytes : List ℕ) → Holds self.old (left_by bytes) → NoMark (left_by bytes) rest.now
-            → Holds self.new (left_by (bytes ++ take n rest.now)) × (complete (bytes ++ take n rest.now) ≡ complete bytes)) }
+            → GoesOn self.new bytes (take n rest.now)) }
         ensures counted { OnOk result (IsCounted self.new) }
         ensures line { IfOk result (λ n. self.new.line ≤ self.old.line + n) }
         ensures mode { self.new.mode ≡ self.old.mode }

@@ -1,4 +1,4 @@
-use Rattle.std.proofs.Common.{◌≡◌, ◌∙◌, ℕ, ◌≤◌, ap, arith, rules, tests, length, cond, ltb, unwrap_or, subst, sym}
+use Rattle.std.proofs.Common.{◌≡◌, ◌∙◌, ℕ, ◌≤◌, ap, arith, rules, tests, length, cond, ltb, unwrap_or, subst, sym, inl, inr}
 use Rattle.std.specs.Prelude.{Some, None}
 use Rattle.std.specs.List.{position_or_len}
 use Rattle.std.proofs.lemmas.Bool.{cond-true, cond-false, lt-ltb, le-ltb, cases_lt}
@@ -18,7 +18,10 @@ place : (c : goal.After-unwrap_or) → c.unwrap_or.result ≡ position_or_len is
 place c =
     let bytes = c.args.bytes.now in
     let found = position_from_yields_List is_feed _ _ c.position.result c.position.ensures.ran (YieldsList-from_slice bytes cc) (λ x b q k. search (rules, tests)) in
-    ?
+    c.unwrap_or.ensures ∙ ap (λ o. unwrap_or o (length bytes)) found ∙ or_end (position_or_len is_feed bytes) (length bytes) (prefix_len-le-length _ bytes)
 
 pub returns : goal.returns
-returns c = ?
+returns c = record {
+  place = place c;
+  within = subst (λ n. n ≤ length c.args.bytes.now) (sym (place c)) (prefix_len-le-length _ c.args.bytes.now);
+}
