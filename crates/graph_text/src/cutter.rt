@@ -98,20 +98,20 @@ impl Cutter {
 
     /// Takes the block in progress out, as one that is complete.
     fn complete(&mut self) -> Result<Block, AllocError>
-        requires counted { self.old.blocks + self.old.ended < self.old.line }
-        requires fits { self.old.line < 2 ^ 64 }
+        requires { IsCounted self.old }
         ensures block { IfOk result (λ block. (lines : List (List ℕ)) → HoldsBlock self.old (self.old.line - self.old.ended) lines
             → list_all is_blank_line lines ≡ false
             → block ≡ handed self.old.mode (record { index = self.old.blocks + 1; line = self.old.line - self.old.ended; lines = lines })) }
         ensures empty { (first : ℕ) → HoldsBlock self.new first [] }
         ensures kept { KeepsPlace self.old self.new }
     {
+        let line = self.line - self.ended;
         let draft = mem::replace(&mut self.draft, Draft::new(self.alloc, self.mode));
         let name = mem::replace(&mut self.name, Bytes::from_vec(Vec::new(self.alloc)));
         let body = draft.into_body(self.alloc)?;
         Ok(Block {
             index: self.blocks + 1,
-            line: self.line - self.ended,
+            line,
             name,
             body,
         })
@@ -121,7 +121,6 @@ impl Cutter {
     fn begin_next(&mut self, mark: &[u8]) -> Result<Block, AllocError>
         requires counted { IsCounted self.old }
         requires some { 0 < self.old.ended }
-        requires fits { self.old.line < 2 ^ 64 }
         ensures block { IfOk result (λ block. (left : Progress) → Holds self.old left → MayComplete left
             → block ≡ handed self.old.mode (block_in left left.ended)) }
         ensures holds { OnOk result ((left : Progress) → Holds self.old left → Holds self.new (next_begun left mark.now)) }
@@ -250,8 +249,7 @@ impl Cutter {
 
     /// Ends the text, and answers its last block, if there is one. The cutter is of no use from then on.
     pub fn end(&mut self) -> Result<Option<Block>, AllocError>
-        requires counted { IsCounted self.old }
-        requires fits { self.old.line < 2 ^ 64 }
+        requires { IsCounted self.old }
         ensures last { IfOk result (λ last. (bytes : List ℕ) → Holds self.old (left_by bytes)
             → Continues (complete bytes) (blocks bytes) last ⊎ Completes self.old.mode (complete bytes) (blocks bytes) last) }
         ensures mode { self.new.mode ≡ self.old.mode }

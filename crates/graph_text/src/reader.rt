@@ -59,11 +59,16 @@ impl BlockReader {
         if self.waiting.is_some() {
             return Ok(0);
         }
-        if piece.is_empty() {
-            return Ok(0);
+        match self.cutter.read(piece) {
+            Ok((taken, block)) => {
+                self.waiting = block;
+                Ok(taken)
+            }
+            Err(error) => {
+                self.has_failed = true;
+                Err(error)
+            }
         }
-        self.has_failed = true;
-        Err(AllocError)
     }
 
     /// Says that the input has ended: a last block, if there is one, is complete. After an `Err` the reader has failed.
@@ -77,8 +82,20 @@ impl BlockReader {
         ensures failed { has_failed self.old ≡ true → IsErr result }
         ensures mode { mode_of self.new ≡ mode_of self.old }
     {
-        self.has_failed = true;
-        Err(AllocError)
+        if self.has_failed {
+            return Err(AllocError);
+        }
+        match self.cutter.end() {
+            Ok(block) => {
+                self.waiting = block;
+                self.has_finished = true;
+                Ok(())
+            }
+            Err(error) => {
+                self.has_failed = true;
+                Err(error)
+            }
+        }
     }
 
     /// Hands out the complete block that waits, if one does. Takes no memory.
