@@ -124,11 +124,6 @@ impl Inputs for MemInputs {
     ghost faults = { λ s. s.faults };
 
     fn select(&mut self, name: &str) -> Result<(), Fault>
-        ensures asks { (other : List ℕ) → other ≢ name.now → Unit {0} → Unit {0} }
-        ensures holds { (any : List ℕ) → Some (held_in self.new.inputs any) ≡ Some (held_in self.old.inputs any) }
-        ensures told { is_some (Some self.new.selected) ≡ is_some (Some self.old.selected) }
-        ensures ok { OnOk result (Starts name.now (Some (held_in self.old.inputs name.now)) (Some self.new.selected)) }
-        ensures err { OnErr result (Unselected (Some self.new.selected)) }
         ensures cause { HasCause self.old.faults self.new.faults result }
 
         // It fails exactly where this call is to fail or no input of the name was added.
@@ -151,12 +146,8 @@ impl Inputs for MemInputs {
     }
 
     fn read(&mut self, into: &mut [u8]) -> Result<usize, Fault>
-        ensures asks { (any : List ℕ) → Unit {0} → Unit {0} }
-        ensures holds { (any : List ℕ) → Some (held_in self.new.inputs any) ≡ Some (held_in self.old.inputs any) }
         ensures count { IfOk result (λ n. n ≤ length into.new) }
         ensures bytes { IfOk result (λ n. Puts (Some self.old.selected) n into.new) }
-        ensures left { IfOk result (λ n. Some self.new.selected ≡ after_read n (Some self.old.selected)) }
-        ensures err { OnErr result (Some self.new.selected ≡ Some self.old.selected) }
         ensures cause { HasCause self.old.faults self.new.faults result }
 
         // It fails exactly where this call is to fail, and gives as many bytes as it can.

@@ -73,7 +73,6 @@ impl Output for MemOutput {
 
     fn write(&mut self, piece: &[u8]) -> Result<usize, Fault>
         ensures ok { IfOk result (λ n. TakesFront (Some self.old.bytes) (Some self.new.bytes) n piece.now) }
-        ensures err { OnErr result (Some self.new.bytes ≡ Some self.old.bytes) }
         ensures cause { HasCause self.old.faults self.new.faults result }
 
         // It fails exactly where this write is to fail, or there is no room for a byte of the piece.

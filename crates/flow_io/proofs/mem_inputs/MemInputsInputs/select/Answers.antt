@@ -16,15 +16,6 @@ found_at c =
     let found_in : List (List ℕ × List ℕ) → Option ℕ = λ inputs. position (λ input. bytes_eq input.0 c.args.name.now) inputs in
     sym (ap found_in (c.as_slice.ensures.value ∙ same_inputs c)) ∙ sym c.place_of.ensures ∙ c.in-Some.is
 
-pub returns-in-Some-clause-ok : goal.returns-in-Some-clause-ok
-returns-in-Some-clause-ok c =
-    let at_place : List (List ℕ × List ℕ) → List ℕ × List ℕ = λ inputs. input_at inputs c.in-Some.input in
-    let same = ap at_place (same_inputs c) in
-    record {
-      is_asked = ap (λ (input : List ℕ × List ℕ). input.0) same ∙ name_at_place _ _ _ (found_at c);
-      whole = ap (λ (input : List ℕ × List ℕ). input.1) same ∙ bytes_at_place _ _ _ (found_at c);
-    }
-
 pub returns-in-Some-clause-started : goal.returns-in-Some-clause-started
 returns-in-Some-clause-started c =
     let one_in : List (List ℕ × List ℕ) → Selected =
