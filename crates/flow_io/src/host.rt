@@ -1,5 +1,5 @@
 //! Files, standard input, standard output and standard error. Nothing is told of their bytes.
-ghost use Rattle.std.specs.Prelude.{None};
+ghost use Rattle.std.specs.Prelude.{◌≡◌, None};
 
 use crate::outside::{Fault, Inputs, Output};
 use std::fs::File;
@@ -23,7 +23,10 @@ pub struct HostInputs<'a, R: Files + Input> {
 }
 
 impl<'a, R: Files + Input> HostInputs<'a, R> {
-    pub fn new(rt: &'a R) -> HostInputs<'a, R> {
+    /// No input is selected.
+    pub fn new(rt: &'a R) -> HostInputs<'a, R>
+        ensures { ⟦<HostInputs<'a, R> as Inputs>⟧.faults result ≡ 0 }
+    {
         HostInputs {
             rt,
             source: Source::Nothing,
@@ -83,7 +86,9 @@ pub struct HostOutput<W: Write + Drop> {
 }
 
 impl<W: Write + Drop> HostOutput<W> {
-    pub fn new(writer: W) -> HostOutput<W> {
+    pub fn new(writer: W) -> HostOutput<W>
+        ensures { ⟦<HostOutput<W> as Output>⟧.faults result ≡ 0 }
+    {
         HostOutput { writer, faults: 0 }
     }
 }

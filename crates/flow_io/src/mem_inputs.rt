@@ -1,5 +1,5 @@
 //! Named inputs in memory, of which chosen calls fail.
-ghost use Rattle.std.specs.Prelude.{◌≡◌, ◌≢◌, ◌≤◌, List, ℕ, Bool, [], ◌∷◌, length, min, Option, Some, None, option_map, is_some, is_err, IfOk, OnOk, OnErr, bytes_eq};
+ghost use Rattle.std.specs.Prelude.{◌≡◌, ◌≢◌, ◌≤◌, List, ℕ, Bool, [], ◌∷◌, ◌++◌, length, min, Option, Some, None, option_map, is_some, is_err, IfOk, OnOk, OnErr, bytes_eq};
 ghost use Rattle.std.specs.List.{position};
 ghost use Rattle.flow_io.specs.Outside.{Selected, Unselected, HasCause, Starts, Puts, after_read, skipped};
 ghost use Rattle.flow_io.specs.Counter.{counted};
@@ -87,10 +87,10 @@ impl MemInputs {
 
     /// Lets a call fail. The calls of `select` and `read` are counted together from 0.
     pub fn fail_at(&mut self, call: u64) -> Result<(), AllocError>
-        ensures ok { OnOk result (self.new ≡ record self.old { failing = call ∷ self.old.failing }) }
+        ensures ok { OnOk result (self.new ≡ record self.old { failing = self.old.failing ++ call ∷ [] }) }
         ensures err { OnErr result (self.new ≡ self.old) }
     {
-        self.failing.insert(0, call)?;
+        self.failing.push(call)?;
         Ok(())
     }
 

@@ -1,5 +1,5 @@
 //! An output in memory, of which chosen writes fail.
-ghost use Rattle.std.specs.Prelude.{◌≡◌, ◌+◌, ◌≤◌, List, ℕ, Bool, [], ◌∷◌, take, Some, is_err, vec_capacity, vec_len, IfOk, OnOk, OnErr};
+ghost use Rattle.std.specs.Prelude.{◌≡◌, ◌+◌, ◌≤◌, List, ℕ, Bool, [], ◌∷◌, ◌++◌, take, Some, is_err, vec_capacity, vec_len, IfOk, OnOk, OnErr};
 ghost use Rattle.flow_io.specs.Outside.{HasCause, TakesFront};
 ghost use Rattle.flow_io.specs.Sink.{Sink, write_fails, count_taken, written_to, failed_write};
 
@@ -51,10 +51,10 @@ impl MemOutput {
 
     /// Lets a write fail. The writes are counted from 0.
     pub fn fail_at(&mut self, call: u64) -> Result<(), AllocError>
-        ensures ok { OnOk result (self.new ≡ record self.old { failing = call ∷ self.old.failing }) }
+        ensures ok { OnOk result (self.new ≡ record self.old { failing = self.old.failing ++ call ∷ [] }) }
         ensures err { OnErr result (self.new ≡ self.old) }
     {
-        self.failing.insert(0, call)?;
+        self.failing.push(call)?;
         Ok(())
     }
 

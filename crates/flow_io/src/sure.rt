@@ -1,5 +1,5 @@
 //! Inputs and outputs that never fail.
-ghost use Rattle.std.specs.Prelude.{◌≡◌, ◌+◌, ◌-◌, ◌^◌, ◌⊎◌, ◌≤◌, min, List, ℕ, Option, Some, None, [], length};
+ghost use Rattle.std.specs.Prelude.{◌≡◌, ◌⊎◌, ◌↔◌, List, ℕ, Some, None, []};
 ghost use Rattle.flow_io.specs.Memory.{selection, held_by};
 ghost use Rattle.flow_io.specs.declared.sure.Choice.TheVariants.{Nothing};
 
@@ -30,7 +30,8 @@ pub struct SureInputs<'a> {
 impl<'a> SureInputs<'a> {
     /// Where both names are equal, the name holds the first bytes. No input is selected.
     pub fn new(n1: &'a str, b1: &'a [u8], n2: &'a str, b2: &'a [u8]) -> SureInputs<'a>
-        ensures asks { (name : List ℕ) → (name ≡ n1.now) ⊎ (name ≡ n2.now) → ⟦<SureInputs<'a> as Inputs>⟧.may_ask result name }
+        ensures asks { (name : List ℕ) → ⟦<SureInputs<'a> as Inputs>⟧.may_ask result name
+            ↔ ((name ≡ n1.now) ⊎ (name ≡ n2.now)) }
         ensures holds { (name : List ℕ) → ⟦<SureInputs<'a> as Inputs>⟧.holds result name
             ≡ Some (held_by n1.now b1.now n2.now b2.now name) }
         ensures none { ⟦<SureInputs<'a> as Inputs>⟧.selected result ≡ Some None }
