@@ -62,8 +62,8 @@ Took-more told now after bytes into n took within puts left =
     record {
       first = AreFirst-more told bytes into n within took.first (subst (λ x. Puts x n into) took.left puts);
       left =
-        left ∙ ap (after_read n) took.left ∙ after_read-then (length bytes) n told
-        ∙ ap (λ k. after_read k told) (sym (length-more bytes into n within));
+          left ∙ ap (after_read n) took.left ∙ after_read-then (length bytes) n told
+          ∙ ap (λ k. after_read k told) (sym (length-more bytes into n within));
     }
 
 -- no more was taken than was left

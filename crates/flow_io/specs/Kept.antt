@@ -1,5 +1,5 @@
 -- What the fields of named inputs in memory stand for.
-use Rattle.std.specs.Prelude.{ℕ, ◌<◌, ◌≤◌, List, length, drop, Option, Some, None, option_map, IfSome}
+use Rattle.std.specs.Prelude.{ℕ, ◌<◌, ◌≤◌, List, length, drop, Option, option_map, IfSome}
 use Rattle.flow_io.specs.Outside.{Selected}
 use Rattle.flow_io.specs.Store.{input_at}
 use Rattle.flow_io.specs.declared.mem_inputs.Place.{Place}

@@ -38,12 +38,12 @@ impl Model for MemInputs {
     ghost Value = { Store };
 
     ghost view = { λ a. record {
-        chunk = a.chunk;
-        inputs = a.inputs.items;
-        failing = a.failing.items;
-        calls = a.calls;
-        selected = selected_at a.inputs.items a.selected;
-        faults = a.faults;
+      chunk = a.chunk;
+      inputs = a.inputs.items;
+      failing = a.failing.items;
+      calls = a.calls;
+      selected = selected_at a.inputs.items a.selected;
+      faults = a.faults;
     } };
 
     ghost invariant = { λ a. IsKept a.chunk a.inputs.items a.selected };

@@ -22,12 +22,12 @@ impl Model for MemOutput {
     ghost Value = { Sink };
 
     ghost view = { λ a. record {
-        chunk = a.chunk;
-        room = a.room;
-        bytes = a.bytes.items;
-        failing = a.failing.items;
-        calls = a.calls;
-        faults = a.faults;
+      chunk = a.chunk;
+      room = a.room;
+      bytes = a.bytes.items;
+      failing = a.failing.items;
+      calls = a.calls;
+      faults = a.faults;
     } };
 
     ghost invariant = { λ a. (1 ≤ a.chunk) × (vec_len a.bytes + a.room ≤ vec_capacity a.bytes) };

@@ -1,8 +1,8 @@
 use Rattle.std.proofs.Common.{◌≡◌, ◌∙◌, sym, ap, Option, Some, List, ℕ, bytes_eq}
 use Rattle.std.specs.List.{position}
 use Rattle.flow_io.specs.Outside.{Selected}
-use Rattle.flow_io.specs.Store.{Store, held_in, input_at, after_call}
-use Rattle.flow_io.proofs.Places.{name_at_place, bytes_at_place, selected_at_place}
+use Rattle.flow_io.specs.Store.{Store, input_at, after_call}
+use Rattle.flow_io.proofs.Places.{selected_at_place}
 use Rattle.flow_io.proofs.mem_inputs.MemInputsInputs.select.Goals as goal
 
 same_inputs : (c : goal.After-self-in-Some-1) → c.self-2.inside.inputs.items ≡ c.args.self.now.inputs
