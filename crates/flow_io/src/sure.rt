@@ -1,7 +1,6 @@
 //! Inputs and outputs that never fail.
-ghost use Rattle.std.specs.Prelude.{◌≡◌, ◌⊎◌, ◌↔◌, List, ℕ, Some, None, []};
-ghost use Rattle.flow_io.specs.Memory.{selection, held_by};
-ghost use Rattle.flow_io.specs.declared.sure.Choice.TheVariants.{Nothing};
+ghost use Rattle.std.specs.Prelude.{◌≡◌, ◌⊎◌, ◌+◌, ◌-◌, ◌^◌, ℕ, min, length, Some, None};
+ghost use Rattle.flow_io.specs.Memory.{held_by};
 
 use crate::front::copy_front;
 use crate::outside::{Fault, Inputs, Output};
@@ -24,17 +23,30 @@ pub struct SureInputs<'a> {
     second: &'a [u8],
     choice: Choice,
     left: &'a [u8],
-    ghost idle: { choice ≡ Nothing → left.now ≡ [] },
+}
+
+impl<'a> Model for SureInputs<'a> {
+    ghost use Rattle.std.specs.Prelude.{◌≡◌, []};
+    ghost use Rattle.flow_io.specs.Memory.{TwoInputs, selection};
+    ghost use Rattle.flow_io.specs.declared.sure.Choice.TheVariants.{Nothing};
+
+    ghost Value = { TwoInputs };
+
+    ghost view = { λ a. record {
+      first_name = a.first_name.now;
+      first = a.first.now;
+      second_name = a.second_name.now;
+      second = a.second.now;
+      selected = selection a.choice a.first_name.now a.second_name.now a.left.now;
+    } };
+
+    ghost invariant = { λ a. a.choice ≡ Nothing → a.left.now ≡ [] };
 }
 
 impl<'a> SureInputs<'a> {
     /// Where both names are equal, the name holds the first bytes. No input is selected.
     pub fn new(n1: &'a str, b1: &'a [u8], n2: &'a str, b2: &'a [u8]) -> SureInputs<'a>
-        ensures asks { (name : List ℕ) → ⟦<SureInputs<'a> as Inputs>⟧.may_ask result name
-            ↔ ((name ≡ n1.now) ⊎ (name ≡ n2.now)) }
-        ensures holds { (name : List ℕ) → ⟦<SureInputs<'a> as Inputs>⟧.holds result name
-            ≡ Some (held_by n1.now b1.now n2.now b2.now name) }
-        ensures none { ⟦<SureInputs<'a> as Inputs>⟧.selected result ≡ Some None }
+        ensures { result ≡ record { first_name = n1.now; first = b1.now; second_name = n2.now; second = b2.now; selected = None } }
     {
         SureInputs {
             first_name: n1,
@@ -48,13 +60,13 @@ impl<'a> SureInputs<'a> {
 }
 
 impl<'a> Inputs for SureInputs<'a> {
-    ghost may_ask = { λ s name. (name ≡ s.first_name.now) ⊎ (name ≡ s.second_name.now) };
+    ghost may_ask = { λ s name. (name ≡ s.first_name) ⊎ (name ≡ s.second_name) };
 
-    ghost holds = { λ s name. Some (held_by s.first_name.now s.first.now s.second_name.now s.second.now name) };
+    ghost holds = { λ s name. Some (held_by s.first_name s.first s.second_name s.second name) };
 
-    ghost selected = { λ s. Some (selection s.choice s.first_name.now s.second_name.now s.left.now) };
+    ghost selected = { λ s. Some s.selected };
 
-    ghost faults = { λ s. 0 };
+    ghost faults = { λ _. 0 };
 
     fn select(&mut self, name: &str) -> Result<(), Fault> {
         if name == self.first_name {
@@ -106,7 +118,10 @@ impl Output for SureOutput {
 
     ghost faults = { λ _. 0 };
 
-    fn write(&mut self, piece: &[u8]) -> Result<usize, Fault> {
+    fn write(&mut self, piece: &[u8]) -> Result<usize, Fault>
+        ensures all { result ≡ Ok (length piece.now) }
+        ensures counts { self.new ≡ min (self.old + length piece.now) (2 ^ 64 - 1) }
+    {
         self.taken = self.taken.saturating_add(piece.len() as u64);
         Ok(piece.len())
     }
