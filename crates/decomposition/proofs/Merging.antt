@@ -8,7 +8,7 @@ use Rattle.std.proofs.lemmas.Cmp.{nat_list_eq_equiv}
 use Rattle.std.proofs.lemmas.List.Recursion.{is_sum_by}
 use Rattle.std.proofs.lemmas.Slice.Eq.{bytes_eq-Decides}
 use Rattle.decomposition.specs.Graph.{Graph, has_edge, is_path}
-use Rattle.decomposition.specs.Answer.{weight_on, weight_of, same_path, IsAnswer, Covers, HaveSamePaths, IsMerged}
+use Rattle.decomposition.specs.Answer.{weight_on, weight_of, same_path, IsAnswer, Covers, HaveSamePaths}
 use Rattle.decomposition.specs.Laws.{MergingKeepsSums}
 use Rattle.decomposition.proofs.Members.{any-place, any-from_place}
 use Rattle.decomposition.proofs.Root.{all-place, Covers-by}

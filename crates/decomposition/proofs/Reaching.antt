@@ -1,5 +1,5 @@
 -- Reaching, step by step, and the test for it.
-use Rattle.std.proofs.Common.{◌≡◌, ℕ, zero, suc, ◌<◌, ◌≤◌, ◌++◌, ◌∷◌, [], List, Bool, true, ◌||◌, ◌==◌, eqb, length, get_or, take, refl, sym, ap, subst, ◌∙◌, arith, inl, inr, eq-eqb, eqb-true, true≢false}
+use Rattle.std.proofs.Common.{◌≡◌, ℕ, zero, suc, ◌<◌, ◌≤◌, ◌++◌, ◌∷◌, [], List, true, ◌==◌, eqb, length, get_or, take, refl, sym, ap, subst, ◌∙◌, arith, inl, inr, eq-eqb, eqb-true}
 use Rattle.std.specs.Prelude.{◌⊎◌, Contains}
 use Rattle.std.specs.List.{list_any}
 use Rattle.std.proofs.lemmas.Bool.{or_cases, or_left, or_right}

@@ -1,5 +1,5 @@
 -- The orders of edge lists and of entries, and lists in order.
-use Rattle.std.proofs.Common.{◌≡◌, ◌≢◌, ◌==◌, ℕ, zero, suc, ◌<◌, ◌∷◌, [], List, Bool, true, false, not, ◌&&◌, ◌||◌, nat_lt, length, get_or, refl, sym, ap, inl, inr, arith, true≢false, eqb-true}
+use Rattle.std.proofs.Common.{◌≡◌, ◌≢◌, ◌==◌, ℕ, zero, suc, ◌<◌, ◌∷◌, [], List, Bool, true, not, ◌&&◌, nat_lt, length, get_or, refl, sym, inl, inr, arith, true≢false, eqb-true}
 use Rattle.std.specs.Ordering.{nat_cmp, is_lt}
 use Rattle.std.specs.Cmp.Lexicographic.{slice_cmp}
 use Rattle.std.specs.declared.cmp.Ordering.{Ordering}
