@@ -1,14 +1,14 @@
 -- Reaching, step by step, and the test for it.
 use Rattle.std.proofs.Common.{◌≡◌, ℕ, zero, suc, ◌<◌, ◌≤◌, ◌++◌, ◌∷◌, [], List, true, ◌==◌, eqb, length, get_or, take, refl, sym, ap, subst, ◌∙◌, arith, inl, inr, eq-eqb, eqb-true}
-use Rattle.std.specs.Prelude.{◌⊎◌, Contains}
+use Rattle.std.specs.Prelude.{◌⊎◌, ◌≢◌, ◌+◌, Contains, All, AllPairs}
 use Rattle.std.specs.List.{list_any}
-use Rattle.std.proofs.lemmas.Bool.{or_cases, or_left, or_right}
+use Rattle.std.proofs.lemmas.Bool.{cases_lt, or_cases, or_left, or_right}
 use Rattle.std.proofs.lemmas.List.{get_or-take, length-take-le}
 use Rattle.decomposition.specs.Graph.{Graph, IsNet, graph_before, edge_count, tail, head, edges_from, is_walk_from, walk_end}
 use Rattle.decomposition.specs.Laws.{ReachesByWalks}
 use Rattle.decomposition.specs.Reach.{Reaches, reaches_within, reaches}
 use Rattle.decomposition.proofs.Members.{any-place, any-from_place}
-use Rattle.decomposition.proofs.Nets.{edge_number}
+use Rattle.decomposition.proofs.Nets.{edge_number, in_range-from_inside, simple-from_pairs}
 use Rattle.decomposition.proofs.Walks.{IsStep, walk-cons, walk-from_step, walk-append, walk_end-append, walk-length, edges_from-has, edges_from-only}
 
 pub Reaches-self : (g : Graph) (u v : ℕ) → u ≡ v → Reaches g u v
@@ -134,3 +134,70 @@ closes_none g n e few net before found =
 -- a walk that an edge closes is found
 pub closes_some : (g : Graph) (e : ℕ) → IsNet (graph_before g e) → Reaches (graph_before g e) (head g e) (tail g e) → reaches (graph_before g e) (head g e) (tail g e) ≡ true
 closes_some g e net way = (reaches_by_walks (graph_before g e) (head g e) (tail g e) net).1 way
+
+-- what is reached over one edge more is reached without it, or the way leads over it
+pub Reaches-cases_last : (g : Graph) (e : ℕ) → e < edge_count g → (u v : ℕ) → Reaches (graph_before g (e + 1)) u v
+    → Reaches (graph_before g e) u v ⊎ (Reaches (graph_before g e) u (tail g e) × Reaches (graph_before g e) (head g e) v)
+Reaches-cases_last g e there u v way = go u way.edges way.walk way.end where
+  go : (u : ℕ) (es : List ℕ) → is_walk_from (graph_before g (e + 1)) u es ≡ true → walk_end (graph_before g (e + 1)) u es ≡ v
+      → Reaches (graph_before g e) u v ⊎ (Reaches (graph_before g e) u (tail g e) × Reaches (graph_before g e) (head g e) v)
+  go u [] walk end = inl (Reaches-self (graph_before g e) u v end)
+  go u (d ∷ ds) walk end =
+      let s : IsStep (graph_before g (e + 1)) u d ds = walk-cons (graph_before g (e + 1)) u d ds walk in
+      let low : d < e + 1 = omega (arith, s.inside, length-take-le (e + 1) g.edges (omega arith)) in
+      let new = IsEdge-before g (e + 1) d (omega arith) low in
+      let from_tail : tail g d ≡ u = sym new.1 ∙ s.leaves in
+      let rest = go (head (graph_before g (e + 1)) d) ds s.rest end in
+      elim (cases_lt d e) [
+        | inl old_edge ↦
+            let old = IsEdge-before g e d (omega arith) old_edge in
+            let along = λ (x : ℕ) (ahead : Reaches (graph_before g e) (head (graph_before g (e + 1)) d) x).
+                subst (λ z. Reaches (graph_before g e) z x) (old.1 ∙ from_tail)
+                (Reaches-along (graph_before g e) d x old.0 (subst (λ z. Reaches (graph_before g e) z x) (new.2 ∙ sym old.2) ahead)) in
+            elim rest [ inl ahead ↦ inl (along v ahead) | inr over ↦ inr (along (tail g e) over.0, over.1) ]
+        | inr last ↦
+            let same : d ≡ e = omega arith in
+            let here : Reaches (graph_before g e) u (tail g e) = Reaches-self (graph_before g e) u (tail g e) (sym from_tail ∙ ap (tail g) same) in
+            let ahead_is : head (graph_before g (e + 1)) d ≡ head g e = new.2 ∙ ap (head g) same in
+            elim rest [ inl ahead ↦ inr (here, subst (λ z. Reaches (graph_before g e) z v) ahead_is ahead) | inr over ↦ inr (here, over.1) ]
+      ]
+
+-- a net and one edge more, whose head does not reach its tail
+pub IsNet-more : (g : Graph) (e : ℕ) → e < edge_count g → All (λ edge. (edge.0 < g.vertices) × (edge.1 < g.vertices)) (take (e + 1) g.edges) → AllPairs (λ a b. a ≢ b) (take (e + 1) g.edges)
+    → IsNet (graph_before g e) → ¬ Reaches (graph_before g e) (head g e) (tail g e) → IsNet (graph_before g (e + 1))
+IsNet-more g e there inside distinct net apart = record {
+  in_range = in_range-from_inside (graph_before g (e + 1)) inside;
+  simple = simple-from_pairs (graph_before g (e + 1)) distinct;
+  acyclic = no_walk;
+} where
+  closed_by : (d : ℕ) → d < e + 1 → Reaches (graph_before g (e + 1)) (head g d) (tail g d) → ⊥
+  closed_by d low way =
+      elim (cases_lt d e) [
+        | inl old_edge ↦
+            let old = IsEdge-before g e d (omega arith) old_edge in
+            elim (Reaches-cases_last g e there (head g d) (tail g d) way) [
+              | inl around ↦
+                  let walk : is_walk_from (graph_before g e) (tail g d) (d ∷ around.edges) ≡ true
+                  = walk-from_step (graph_before g e) (tail g d) d around.edges (record { inside = old.0; leaves = old.1; rest = subst (λ x. is_walk_from (graph_before g e) x around.edges ≡ true) (sym old.2) around.walk }) in
+                  let closed : walk_end (graph_before g e) (tail g d) (d ∷ around.edges) ≡ tail g d = ap (λ x. walk_end (graph_before g e) x around.edges) old.2 ∙ around.end in
+                  let none : d ∷ around.edges ≡ [] = net.acyclic (tail g d) (d ∷ around.edges) walk closed in
+                  cc
+              | inr over ↦
+                  let step : Reaches (graph_before g e) (tail g d) (tail g e)
+                  = subst (λ z. Reaches (graph_before g e) z (tail g e)) old.1 (Reaches-along (graph_before g e) d (tail g e) old.0 (subst (λ z. Reaches (graph_before g e) z (tail g e)) (sym old.2) over.0)) in
+                  apart (Reaches-trans (graph_before g e) (head g e) (tail g d) (tail g e) over.1 step)
+            ]
+        | inr last ↦
+            let same : d ≡ e = omega arith in
+            let way' : Reaches (graph_before g (e + 1)) (head g e) (tail g e) = subst (λ z. Reaches (graph_before g (e + 1)) (head g z) (tail g z)) same way in
+            elim (Reaches-cases_last g e there (head g e) (tail g e) way') [ inl around ↦ apart around | inr over ↦ apart over.0 ]
+      ]
+
+  no_walk : (v : ℕ) (es : List ℕ) → is_walk_from (graph_before g (e + 1)) v es ≡ true → walk_end (graph_before g (e + 1)) v es ≡ v → es ≡ []
+  no_walk v [] walk closed = refl
+  no_walk v (d ∷ ds) walk closed =
+      let s : IsStep (graph_before g (e + 1)) v d ds = walk-cons (graph_before g (e + 1)) v d ds walk in
+      let low : d < e + 1 = omega (arith, s.inside, length-take-le (e + 1) g.edges (omega arith)) in
+      let new = IsEdge-before g (e + 1) d (omega arith) low in
+      let way : Reaches (graph_before g (e + 1)) (head (graph_before g (e + 1)) d) v = record { edges = ds; walk = s.rest; end = closed } in
+      absurd (closed_by d low (subst (λ z. Reaches (graph_before g (e + 1)) z (tail g d)) new.2 (subst (Reaches (graph_before g (e + 1)) (head (graph_before g (e + 1)) d)) (sym s.leaves ∙ new.1) way)))
