@@ -6,17 +6,17 @@ use Rattle.decomposition.specs.Answer.{sum_below}
 use Rattle.decomposition.proofs.Sums.{sum_below_more}
 
 -- for each of n vertices, the flow of the first `count` edges that have it as their end; no sum is great
-pub record AddsUp (end flow : ℕ → ℕ) (n count : ℕ) (sums : List ℕ) : Type 0 where
+pub record AddsUp (most : ℕ) (end flow : ℕ → ℕ) (n count : ℕ) (sums : List ℕ) : Type 0 where
   pub room : length sums ≡ n
   pub at : (v : ℕ) → v < n → slice_index sums v ≡ sum_below (λ e. cond (end e == v) (flow e) 0) count
-  pub small : (v : ℕ) → slice_index sums v ≤ count * 1000000000000
+  pub small : (v : ℕ) → slice_index sums v ≤ count * most
 
-module _ (end flow : ℕ → ℕ) (n e h r w : ℕ) (sums : List ℕ) (is_end : h ≡ end e) (within : h < length sums) (read : r ≡ slice_index sums h) (units : w ≡ flow e) (little : w ≤ 1000000000000) (so_far : AddsUp end flow n e sums) where
+module _ (most : ℕ) (end flow : ℕ → ℕ) (n e h r w : ℕ) (sums : List ℕ) (is_end : h ≡ end e) (within : h < length sums) (read : r ≡ slice_index sums h) (units : w ≡ flow e) (little : w ≤ most) (so_far : AddsUp most end flow n e sums) where
   one_more : (v : ℕ) → sum_below (λ e. cond (end e == v) (flow e) 0) (e + 1) ≡ sum_below (λ e. cond (end e == v) (flow e) 0) e + cond (end e == v) (flow e) 0
   one_more v = sum_below_more (λ e. cond (end e == v) (flow e) 0) e
 
   -- one more edge adds its flow at its end
-  pub AddsUp-more : AddsUp end flow n (e + 1) (slice_set sums h (r + w))
+  pub AddsUp-more : AddsUp most end flow n (e + 1) (slice_set sums h (r + w))
   AddsUp-more = record {
     room = length-set sums h (r + w) ∙ so_far.room;
     at = λ v hv.

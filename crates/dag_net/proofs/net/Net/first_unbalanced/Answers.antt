@@ -1,4 +1,4 @@
-use Rattle.std.proofs.Common.{◌≡◌, ◌<◌, length, sym, ◌∙◌, arith, slice_index}
+use Rattle.std.proofs.Common.{◌<◌, sym, ◌∙◌, arith, slice_index}
 use Rattle.std.proofs.lemmas.List.{get_or_read}
 use Rattle.decomposition.proofs.Nets.{IsBalanced-from_none}
 use Rattle.dag_net.proofs.net.Net.first_unbalanced.Goals as goal
