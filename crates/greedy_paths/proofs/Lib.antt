@@ -1,0 +1,6 @@
+pub mod FlowSums
+pub mod Widening
+pub mod Finding
+pub mod Choosing
+pub mod TakingOff
+pub mod Decomposing

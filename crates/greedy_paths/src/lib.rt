@@ -1,0 +1,9 @@
+//! First answers: decompositions of a flow into weighted paths.
+#![tactic(auto)]
+
+pub use greedy::{GreedyFault, decompose};
+
+mod balance;
+mod greedy;
+mod widest;
+mod widths;
