@@ -1,13 +1,13 @@
 -- The path by the first wide edge at each vertex is the widest path that is first by edge list.
-use Rattle.std.proofs.Common.{◌≡◌, ◌≢◌, ℕ, ◌+◌, ◌<◌, ◌≤◌, ◌==◌, ◌&&◌, ◌||◌, nat_lt, min, List, [], ◌∷◌, ◌++◌, Option, None, Some, MatchOption, Bool, true, false, length, refl, sym, ap, subst, ◌∙◌, ⊎_elim, inl, inr, append_assoc, arith, eq-eqb, lt-ltb}
+use Rattle.std.proofs.Common.{◌≡◌, ℕ, ◌<◌, ◌≤◌, ◌==◌, nat_lt, List, [], ◌∷◌, ◌++◌, Option, None, Some, MatchOption, true, false, length, refl, sym, ap, subst, ◌∙◌, ⊎_elim, append_assoc, arith, eq-eqb, lt-ltb}
 use Rattle.std.specs.Prelude.{IsTrue}
 use Rattle.std.specs.Option.{option_to_list}
-use Rattle.std.proofs.lemmas.Bool.{cases_lt, cases_eq, cases_Bool, both_ways, and_from, or_left, or_right}
+use Rattle.std.proofs.lemmas.Bool.{cases_lt, cases_Bool, both_ways, and_from, or_left, or_right}
 use Rattle.decomposition.specs.Graph.{Graph, IsNet, IsPath, edge_count, tail, head, is_sink, is_source, is_run, is_walk_from, walk_end, is_list_le}
 use Rattle.decomposition.specs.FirstAnswer.{path_width, IsWidest}
 use Rattle.decomposition.proofs.Walks.{IsStep, walk-cons, walk-from_step, walk-append, walk-length}
 use Rattle.decomposition.proofs.Flows.{walk_end-push, tail-no_sink}
-use Rattle.greedy_paths.specs.Widths.{walk_width, LeadsToSink, HasWidth}
+use Rattle.greedy_paths.specs.Widths.{walk_width, LeadsToSink}
 use Rattle.greedy_paths.specs.Widest.{IsWide, IsWideFromSource, IsWideOutOf, IsFirstEdge, IsGreatestWidth, IsFirstWalk, IsFirstPath}
 use Rattle.greedy_paths.proofs.Widening.{leads-cons, leads-rest}
 use Rattle.greedy_paths.proofs.Finding.{IsWide-from_width, path-ends, walk_width-path, path_width-walk}
@@ -107,36 +107,36 @@ module _ (g : Graph) (rest : ℕ → ℕ) (width : ℕ) where
   pub IsWidest-from_first : (p : List ℕ) → 1 ≤ width → ((d : ℕ) → rest d ≤ 18446744073709551615) → IsGreatestWidth g rest width → IsFirstPath g rest width p → IsWidest g rest p × (width ≡ path_width rest p)
   IsWidest-from_first [] one small greatest none = let some = greatest.reached one in absurd (none some.0 some.1 some.2)
   IsWidest-from_first (e ∷ es) one small greatest first = (
-      record {
-        path = path;
-        positive = omega (arith, same);
-        widest = λ q h. omega (arith, greatest.widest q h, same);
-        first = least;
-      },
-      same,
-    )
+    record {
+      path = path;
+      positive = omega (arith, same);
+      widest = λ q h. omega (arith, greatest.widest q h, same);
+      first = least;
+    },
+    same,
+  )
     where
-    leads : LeadsToSink g (tail g e) (e ∷ es)
-    leads = leads-cons g e es first.0.0 (IsFirstWalk-leads (head g e) es first.1)
+      leads : LeadsToSink g (tail g e) (e ∷ es)
+      leads = leads-cons g e es first.0.0 (IsFirstWalk-leads (head g e) es first.1)
 
-    path : IsPath g (e ∷ es)
-    path = and_from (is_source g (tail g e)) _ first.0.1.0 (and_from (is_run g (e ∷ es)) (is_sink g (walk_end g (head g e) es)) leads.walk leads.sink)
+      path : IsPath g (e ∷ es)
+      path = and_from (is_source g (tail g e)) _ first.0.1.0 (and_from (is_run g (e ∷ es)) (is_sink g (walk_end g (head g e) es)) leads.walk leads.sink)
 
-    same : width ≡ path_width rest (e ∷ es)
-    same =
-        let here : width ≤ rest e = first.0.1.1.here in
-        let fits : width ≤ 18446744073709551615 = omega (arith, small e) in
-        let beyond : width ≤ walk_width rest es = IsFirstWalk-wide (head g e) es fits first.1 in
-        let le : path_width rest (e ∷ es) ≤ width = greatest.widest (e ∷ es) path in
-        omega (arith, walk_width-path g rest e es)
+      same : width ≡ path_width rest (e ∷ es)
+      same =
+          let here : width ≤ rest e = first.0.1.1.here in
+          let fits : width ≤ 18446744073709551615 = omega (arith, small e) in
+          let beyond : width ≤ walk_width rest es = IsFirstWalk-wide (head g e) es fits first.1 in
+          let le : path_width rest (e ∷ es) ≤ width = greatest.widest (e ∷ es) path in
+          omega (arith, walk_width-path g rest e es)
 
-    least : (q : List ℕ) → IsPath g q → path_width rest q ≡ path_width rest (e ∷ es) → IsTrue (is_list_le (e ∷ es) q)
-    least [] h as_wide = absurd (both_ways false refl h)
-    least (f ∷ fs) h as_wide =
-        let ends = path-ends g f fs h in
-        let s : IsStep g (tail g f) f fs = walk-cons g (tail g f) f fs ends.leads.walk in
-        let beyond : LeadsToSink g (head g f) fs = leads-rest g (tail g f) f fs ends.leads in
-        let wide : width ≤ walk_width rest (f ∷ fs) = omega (arith, path_width-walk g rest f fs small, same) in
-        let is : IsWideFromSource g rest width f = (ends.source, record { here = omega arith; beyond = record { edges = fs; leads = beyond; wide = omega arith } }) in
-        is_list_le-cons e f es fs (⊎_elim (λ (lt : f < e). absurd (first.0.2 f lt is)) (λ (ge : e ≤ f). ge) (cases_lt f e))
-        (λ equal. IsFirstWalk-first (head g e) es fs first.1 (subst (λ n. LeadsToSink g (head g n) fs) (sym equal) beyond) (omega arith))
+      least : (q : List ℕ) → IsPath g q → path_width rest q ≡ path_width rest (e ∷ es) → IsTrue (is_list_le (e ∷ es) q)
+      least [] h as_wide = absurd (both_ways false refl h)
+      least (f ∷ fs) h as_wide =
+          let ends = path-ends g f fs h in
+          let s : IsStep g (tail g f) f fs = walk-cons g (tail g f) f fs ends.leads.walk in
+          let beyond : LeadsToSink g (head g f) fs = leads-rest g (tail g f) f fs ends.leads in
+          let wide : width ≤ walk_width rest (f ∷ fs) = omega (arith, path_width-walk g rest f fs small, same) in
+          let is : IsWideFromSource g rest width f = (ends.source, record { here = omega arith; beyond = record { edges = fs; leads = beyond; wide = omega arith } }) in
+          is_list_le-cons e f es fs (⊎_elim (λ (lt : f < e). absurd (first.0.2 f lt is)) (λ (ge : e ≤ f). ge) (cases_lt f e))
+          (λ equal. IsFirstWalk-first (head g e) es fs first.1 (subst (λ n. LeadsToSink g (head g n) fs) (sym equal) beyond) (omega arith))

@@ -1,15 +1,18 @@
 -- The widest-first list of a balanced flow decomposes it, with at most one path for each edge that has flow.
-use Rattle.std.proofs.Common.{◌≡◌, ◌≢◌, ℕ, suc, ◌+◌, ◌-◌, ◌<◌, ◌≤◌, ◌==◌, ◌&&◌, nat_lt, nat_le, eqb, min, cond, Bool, true, false, List, [], ◌∷◌, ◌++◌, length, slice_index, refl, sym, ap, subst, ◌∙◌, ⊎_elim, inl, inr, append_assoc, arith, eq-eqb, eqb-true, le-leb, true≢false}
-use Rattle.std.specs.Prelude.{AllPairs, All, count_by}
-use Rattle.std.specs.List.{list_any}
-use Rattle.std.proofs.lemmas.Bool.{cases_lt, cases_Bool, both_ways, and_from, and_parts}
-use Rattle.decomposition.specs.Graph.{Graph, IsNet, IsPath, is_path, edge_count, tail, has_edge, is_walk_from, is_run}
-use Rattle.decomposition.specs.Answer.{sum_below, weight_on, IsAnswer}
+use Rattle.std.proofs.Common.{◌≡◌, ◌≢◌, ℕ, ◌+◌, ◌<◌, ◌≤◌, ◌==◌, ◌&&◌, nat_lt, nat_le, eqb, cond, true, false, List, [], ◌∷◌, ◌++◌, length, slice_index, slice_index_or, refl, sym, ap, subst, ◌∙◌, ⊎_elim, append_assoc, arith, eq-eqb, eqb-true, le-leb, true≢false}
+use Rattle.std.specs.Prelude.{AllPairs, All}
+use Rattle.std.specs.List.{IsDistinct}
+use Rattle.std.proofs.lemmas.Bool.Decides.{Decides-eqb}
+use Rattle.std.proofs.lemmas.Map.Made.{AllPairs-from_IsDistinct}
+use Rattle.std.proofs.lemmas.List.Sums.{sum_by-cons}
+use Rattle.std.proofs.lemmas.Bool.{cases_lt, both_ways, and_from}
+use Rattle.decomposition.specs.Graph.{Graph, IsNet, IsPath, is_path, edge_count, tail, has_edge}
+use Rattle.decomposition.specs.Answer.{sum_below}
 use Rattle.decomposition.specs.Flow.{IsBalanced, Decomposes, EmptiesEdge, rest_after}
 use Rattle.decomposition.specs.FirstAnswer.{path_width, IsWidest, IsWidestFirst}
 use Rattle.decomposition.specs.Laws.{FlowsHaveEmptyingPaths}
 use Rattle.decomposition.proofs.Sums.{sum_below_first}
-use Rattle.decomposition.proofs.Members.{any-cons, any-here, any-there}
+use Rattle.decomposition.proofs.Members.{any-cons, any-here, any-there, any-from_place}
 use Rattle.decomposition.proofs.Root.{all-cons}
 use Rattle.decomposition.proofs.Walks.{walk-inside, walk-distinct}
 use Rattle.decomposition.proofs.Balance.{rest_after-balanced}
@@ -105,7 +108,9 @@ pub positive_count-list : (g : Graph) (flow : List ℕ) → length flow ≡ edge
 positive_count-list g flow same = ap (sum_below (λ e. cond (nat_lt 0 (slice_index flow e)) 1 0)) (sym same) ∙ go flow where
   go : (flow : List ℕ) → sum_below (λ e. cond (nat_lt 0 (slice_index flow e)) 1 0) (length flow) ≡ positive_edges flow
   go [] = refl
-  go (w ∷ ws) = sum_below_first (λ e. cond (nat_lt 0 (slice_index (w ∷ ws) e)) 1 0) (length ws) ∙ ap (λ n. cond (nat_lt 0 w) 1 0 + n) (go ws)
+  go (w ∷ ws) =
+      sum_below_first (λ e. cond (nat_lt 0 (slice_index (w ∷ ws) e)) 1 0) (length ws) ∙ ap (λ n. cond (nat_lt 0 w) 1 0 + n) (go ws)
+      ∙ sym (sum_by-cons (λ v. cond (nat_lt 0 v) 1 0) w ws)
 
 -- a list of widest paths that is begun, and what it leaves
 pub record LeavesRest (g : Graph) (flow : List ℕ) (answer : List (List ℕ × ℕ)) (rest : List ℕ) : Type 0 where
@@ -131,7 +136,22 @@ LeavesRest-all g flow answer rest left none = subst (IsWidestFirst g (slice_inde
   append-none [] = refl
   append-none (x ∷ a) = ap (λ xs. x ∷ xs) (append-none a)
 
--- the edges of a path are edges, each once
-pub record HasEdgesOnce (count : ℕ) (p : List ℕ) : Type 0 where
-  pub inside : All (λ e. e < count) p
-  pub once : AllPairs (λ d e. d ≢ e) p
+-- the edges of a path are edges, each once, and have its width left
+module _ (g : Graph) (rest : ℕ → ℕ) (p : List ℕ) where
+  stands : (k d : ℕ) → k < length p → has_edge p (slice_index_or p k d) ≡ true
+  stands k d h = any-from_place (λ e. slice_index_or p k d == e) p d k h (eq-eqb (slice_index_or p k d) (slice_index_or p k d) refl)
+
+  pub path-inside : IsPath g p → All (λ e. e < edge_count g) p
+  path-inside path k d h = go p path (stands k d h) where
+    go : (q : List ℕ) → IsPath g q → has_edge q (slice_index_or p k d) ≡ true → slice_index_or p k d < edge_count g
+    go [] path hit = absurd (both_ways false refl path)
+    go (e ∷ es) path hit = walk-inside g (tail g e) (e ∷ es) (slice_index_or p k d) (path-ends g e es path).leads.walk hit
+
+  pub path-once : IsNet g → IsPath g p → AllPairs (λ d e. d ≢ e) p
+  path-once net path = AllPairs-from_IsDistinct Decides-eqb p (go p path) where
+    go : (q : List ℕ) → IsPath g q → IsDistinct eqb q
+    go [] path = absurd (both_ways false refl path)
+    go (e ∷ es) path = walk-distinct g net (tail g e) (e ∷ es) (path-ends g e es path).leads.walk
+
+  pub path-enough : (width : ℕ) → width ≡ path_width rest p → All (λ e. width ≤ rest e) p
+  path-enough width is k d h = omega (arith, is, path_width-le rest p (slice_index_or p k d) (stands k d h))

@@ -1,15 +1,15 @@
 -- The greatest width of a path, and the first edge of that width out of a vertex.
-use Rattle.std.proofs.Common.{◌≡◌, ◌≢◌, ℕ, ◌+◌, ◌<◌, ◌≤◌, min, max, List, [], ◌∷◌, Option, None, Some, MatchOption, true, false, refl, sym, ap, subst, ◌∙◌, ⊎_elim, arith}
+use Rattle.std.proofs.Common.{◌≡◌, ℕ, ◌+◌, ◌<◌, ◌≤◌, max, List, [], ◌∷◌, Option, None, Some, MatchOption, true, false, sym, subst, ⊎_elim, arith}
 use Rattle.std.specs.Prelude.{IsTrue}
-use Rattle.std.proofs.lemmas.Bool.{cases_lt, cases_eq, both_ways, and_parts}
-use Rattle.decomposition.specs.Graph.{Graph, IsNet, IsPath, edge_count, tail, head, is_sink, is_source, is_run, is_walk_from, walk_end}
+use Rattle.std.proofs.lemmas.Bool.{cases_lt, both_ways, and_parts}
+use Rattle.decomposition.specs.Graph.{Graph, IsPath, edge_count, tail, head, is_sink, is_source, is_run, walk_end}
 use Rattle.decomposition.specs.FirstAnswer.{path_width}
-use Rattle.decomposition.proofs.Walks.{IsStep, walk-cons, walk-from_step}
+use Rattle.decomposition.proofs.Walks.{IsStep, walk-cons}
 use Rattle.decomposition.proofs.Flows.{tail-no_sink}
 use Rattle.dag_net.specs.Chain.{IsFirstOut}
 use Rattle.greedy_paths.specs.Widths.{walk_width, LeadsToSink, HasWidth, IsWidthFrom}
-use Rattle.greedy_paths.specs.Widest.{IsWide, IsWideFromSource, IsWideOutOf, IsFirstEdge, IsGreatestWidth}
-use Rattle.greedy_paths.proofs.Widening.{leads-cons, leads-rest, HasWidth-less}
+use Rattle.greedy_paths.specs.Widest.{IsWide, IsWideFromSource, IsWideOutOf, IsGreatestWidth}
+use Rattle.greedy_paths.proofs.Widening.{leads-rest, HasWidth-less}
 
 -- a path begins at a source and leads to a sink
 pub record IsFromSource (g : Graph) (e : ℕ) (es : List ℕ) : Type 0 where

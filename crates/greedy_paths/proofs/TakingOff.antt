@@ -1,7 +1,6 @@
 -- A weight taken off the edges of a path, one after the other.
-use Rattle.std.proofs.Common.{◌≡◌, ◌≢◌, ℕ, ◌+◌, ◌-◌, ◌<◌, ◌≤◌, ◌==◌, ◌||◌, Bool, true, false, cond, List, [], ◌∷◌, ◌++◌, length, take, get_or, slice_index, slice_set, get_or-set_same, get_or-set_other, get_or-take, length-take, refl, sym, ap, subst, ◌∙◌, ⊎_elim, inl, inr, arith, eqb-true, eq-eqb, ne_eqb}
-use Rattle.std.specs.Prelude.{AllPairs, All}
-use Rattle.std.specs.List.{list_any}
+use Rattle.std.proofs.Common.{◌≡◌, ◌≢◌, ℕ, ◌+◌, ◌-◌, ◌<◌, ◌==◌, ◌||◌, Bool, true, false, List, [], ◌∷◌, ◌++◌, length, take, slice_index, slice_set, get_or-set_same, get_or-set_other, get_or-take, length-take, refl, sym, ap, ◌∙◌, ⊎_elim, arith, eqb-true, eq-eqb, ne_eqb}
+use Rattle.std.specs.Prelude.{AllPairs}
 use Rattle.std.proofs.lemmas.Bool.{cases_eq, cases_Bool}
 use Rattle.std.proofs.lemmas.List.{take_more}
 use Rattle.decomposition.specs.Graph.{has_edge}

@@ -1,7 +1,11 @@
 -- The greatest widths of walks to sinks, gathered against the order of the vertices.
-use Rattle.std.proofs.Common.{◌≡◌, ◌≢◌, ℕ, ◌+◌, ◌<◌, ◌≤◌, min, max, List, [], ◌∷◌, Option, None, Some, MatchOption, true, false, length, slice_index, slice_set, length-set, get_or-set_same, get_or-set_other, refl, sym, ap, subst, ◌∙◌, ⊎_elim, arith}
+use Rattle.std.proofs.Common.{◌≡◌, ◌≢◌, ℕ, ◌+◌, ◌<◌, ◌≤◌, min, max, List, [], ◌∷◌, Option, None, Some, MatchOption, true, false, true≢false, slice_index, slice_set, length-set, get_or-set_same, get_or-set_other, refl, sym, ap, subst, ⊎_elim, arith}
 use Rattle.std.specs.Prelude.{Contains}
-use Rattle.std.proofs.lemmas.Bool.{cases_lt, cases_eq, both_ways}
+use Rattle.std.specs.declared.cmp.Ordering.{Ordering}
+use Rattle.std.specs.declared.cmp.Ordering.TheVariants.{Less, Equal, Greater}
+use Rattle.std.specs.Ordering.{nat_cmp, is_lt, is_le, ord_max, ord_min}
+use Rattle.std.proofs.lemmas.Map.Keys.{ge_from_not_lt, le_from_is_le}
+use Rattle.std.proofs.lemmas.Bool.{cases_lt, cases_eq, cases_Bool, both_ways}
 use Rattle.decomposition.specs.Graph.{Graph, IsNet, edge_count, tail, head, is_sink}
 use Rattle.decomposition.proofs.Walks.{IsStep, walk-cons, walk-from_step}
 use Rattle.dag_net.specs.Chain.{IsFirstOut}
@@ -10,6 +14,26 @@ use Rattle.dag_net.proofs.Walks.{Contains-edge}
 use Rattle.dag_net.proofs.Nets.{inside-from_net}
 use Rattle.dag_net.proofs.Ordering.{at_place, same_place}
 use Rattle.greedy_paths.specs.Widths.{walk_width, LeadsToSink, HasWidth, IsWidthFrom, HeadsHaveWidths, HaveWidthsFrom, AreWidths}
+
+-- the greater and the lesser number, as code finds them
+less_is_le : (o : Ordering) → is_lt o ≡ true → is_le o ≡ true
+less_is_le Less lt = refl
+less_is_le Equal lt = absurd (true≢false (sym lt))
+less_is_le Greater lt = absurd (true≢false (sym lt))
+
+pub max_is : (a b : ℕ) → ord_max nat_cmp a b ≡ max a b
+max_is a b =
+    ⊎_elim
+    (λ (lt : is_lt (nat_cmp b a) ≡ true). let le : b ≤ a = le_from_is_le b a (less_is_le (nat_cmp b a) lt) in rw lt (omega arith))
+    (λ (ge : is_lt (nat_cmp b a) ≡ false). let le : a ≤ b = ge_from_not_lt b a ge in rw ge (omega arith))
+    (cases_Bool (is_lt (nat_cmp b a)))
+
+pub min_is : (a b : ℕ) → ord_min nat_cmp a b ≡ min a b
+min_is a b =
+    ⊎_elim
+    (λ (lt : is_lt (nat_cmp b a) ≡ true). let le : b ≤ a = le_from_is_le b a (less_is_le (nat_cmp b a) lt) in rw lt (omega arith))
+    (λ (ge : is_lt (nat_cmp b a) ≡ false). let le : a ≤ b = ge_from_not_lt b a ge in rw ge (omega arith))
+    (cases_Bool (is_lt (nat_cmp b a)))
 
 -- a walk to a sink, with an edge before it and without its first edge
 pub leads-cons : (g : Graph) (e : ℕ) (es : List ℕ) → e < edge_count g → LeadsToSink g (head g e) es → LeadsToSink g (tail g e) (e ∷ es)

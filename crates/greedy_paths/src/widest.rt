@@ -94,11 +94,7 @@ fn first_path(
 }
 
 /// The widest path and its width, of the paths as wide the first by edge list.
-pub fn widest_path(
-    alloc: Global,
-    net: &Net,
-    rest: &[u64],
-) -> Result<Option<(Ids, u64)>, AllocError>
+pub fn widest_path(alloc: Global, net: &Net, rest: &[u64]) -> Result<Option<(Ids, u64)>, AllocError>
     requires { length rest.now ≡ edge_count net.now }
     ensures found { IfOk result (IsWidestFound net.now (slice_index rest.now)) }
     ensures net { IfOk result (λ _. IsNet net.now) }

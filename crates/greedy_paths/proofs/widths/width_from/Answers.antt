@@ -1,6 +1,6 @@
 use Rattle.std.proofs.Common.{◌≡◌, slice_index, max, min, sym, ap, ◌∙◌, arith}
 use Rattle.decomposition.specs.Graph.{head}
-use Rattle.greedy_paths.proofs.Widening.{IsWidthFrom-sink, Widens-more, Widens-all}
+use Rattle.greedy_paths.proofs.Widening.{max_is, min_is, IsWidthFrom-sink, Widens-more, Widens-all}
 use Rattle.greedy_paths.proofs.widths.width_from.Goals as goal
 
 pub returns-then-is_sink : goal.returns-then-is_sink
@@ -12,7 +12,8 @@ loop-out-preserved c =
     let e = c.in-Some.e in
     let w = rw c.in-Some.is at c.loop-out.invariant in
     let read = ap (slice_index c.args.widths.now) c.head.ensures.head in
-    let is : c.max-width.result ≡ max c.loop-out.width (min (slice_index c.args.rest.now e) (slice_index c.args.widths.now (head g e))) = omega arith in
+    let is : c.max-width.result ≡ max c.loop-out.width (min (slice_index c.args.rest.now e) (slice_index c.args.widths.now (head g e)))
+    = omega (arith, max_is c.loop-out.width c.min.result, min_is (slice_index c.args.rest.now e) (slice_index c.args.widths.now c.head.result)) in
     Widens-more g (slice_index c.args.rest.now) c.args.v e c.next_out-out.result c.loop-out.width c.max-width.result (slice_index c.args.widths.now (head g e)) w
     (c.requires.heads e w.edges.0 w.edges.1) is c.next_out-out.ensures
 
