@@ -1,8 +1,9 @@
 -- The path by the first wide edge at each vertex is the widest path that is first by edge list.
-use Rattle.std.proofs.Common.{◌≡◌, ℕ, ◌<◌, ◌≤◌, ◌==◌, nat_lt, List, [], ◌∷◌, ◌++◌, Option, None, Some, MatchOption, true, false, length, refl, sym, ap, subst, ◌∙◌, ⊎_elim, append_assoc, arith, eq-eqb, lt-ltb}
+use Rattle.std.proofs.Common.{◌≡◌, ℕ, ◌<◌, ◌≤◌, ◌==◌, nat_lt, List, [], ◌∷◌, ◌++◌, Option, None, Some, MatchOption, true, false, length, refl, sym, subst, ◌∙◌, ⊎_elim, append_assoc, arith, eq-eqb, lt-ltb}
 use Rattle.std.specs.Prelude.{IsTrue}
 use Rattle.std.specs.Option.{option_to_list}
 use Rattle.std.proofs.lemmas.Bool.{cases_lt, cases_Bool, both_ways, and_from, or_left, or_right}
+use Rattle.std.proofs.lemmas.List.{append-nil}
 use Rattle.decomposition.specs.Graph.{Graph, IsNet, IsPath, edge_count, tail, head, is_sink, is_source, is_run, is_walk_from, walk_end, is_list_le}
 use Rattle.decomposition.specs.FirstAnswer.{path_width, IsWidest}
 use Rattle.decomposition.proofs.Walks.{IsStep, walk-cons, walk-from_step, walk-append, walk-length}
@@ -43,10 +44,6 @@ module _ (g : Graph) (rest : ℕ → ℕ) (width : ℕ) where
       (cases_Bool (is_sink g (head g e)))
   goes_on e (Some f) es wide first c = subst (IsFirstWalk g rest width (head g e)) (sym c.1) (first, c.2)
 
-  append-none : (es : List ℕ) → es ++ [] ≡ es
-  append-none [] = refl
-  append-none (e ∷ es) = ap (λ xs. e ∷ xs) (append-none es)
-
   pub Begins-more : (path : List ℕ) (e : ℕ) (next : Option ℕ) → Begins path (Some e) → IsFirstEdge g (IsWideOutOf g rest width (head g e)) next → Begins (path ++ e ∷ []) next
   Begins-more path e next b first = record {
     walks = (b.walks.0, longer next first);
@@ -54,7 +51,7 @@ module _ (g : Graph) (rest : ℕ → ℕ) (width : ℕ) where
     completes = λ es c. subst (IsFirstPath g rest width) (sym (append_assoc path (e ∷ []) es)) (b.completes (e ∷ es) (es, refl, goes_on e next es b.wide.1 first c));
   } where
     longer : (next : Option ℕ) → IsFirstEdge g (IsWideOutOf g rest width (head g e)) next → is_walk_from g b.walks.0 ((path ++ e ∷ []) ++ option_to_list next) ≡ true
-    longer None none = rw (append-none (path ++ e ∷ [])) b.walks.1
+    longer None none = rw (append-nil (path ++ e ∷ [])) b.walks.1
     longer (Some f) first =
         walk-append g b.walks.0 (path ++ e ∷ []) (f ∷ []) b.walks.1
         (walk-from_step g (walk_end g b.walks.0 (path ++ e ∷ [])) f [] (record { inside = first.0; leaves = first.1.0 ∙ sym (walk_end-push g b.walks.0 path e); rest = refl }))
@@ -67,7 +64,7 @@ module _ (g : Graph) (rest : ℕ → ℕ) (width : ℕ) where
   Begins-length path e net b = walk-length g net b.walks.0 (path ++ e ∷ []) b.walks.1
 
   pub Begins-all : (path : List ℕ) → Begins path None → IsFirstPath g rest width path
-  Begins-all path b = subst (IsFirstPath g rest width) (append-none path) (b.completes [] refl)
+  Begins-all path b = subst (IsFirstPath g rest width) (append-nil path) (b.completes [] refl)
 
   -- a first walk leads to a sink, and is wide
   IsFirstWalk-leads : (v : ℕ) (es : List ℕ) → IsFirstWalk g rest width v es → LeadsToSink g v es

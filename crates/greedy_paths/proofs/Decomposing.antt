@@ -4,17 +4,18 @@ use Rattle.std.specs.Prelude.{AllPairs, All}
 use Rattle.std.specs.List.{IsDistinct}
 use Rattle.std.proofs.lemmas.Bool.Decides.{Decides-eqb}
 use Rattle.std.proofs.lemmas.Map.Made.{AllPairs-from_IsDistinct}
+use Rattle.std.proofs.lemmas.List.{append-nil}
 use Rattle.std.proofs.lemmas.List.Sums.{sum_by-cons}
 use Rattle.std.proofs.lemmas.Bool.{cases_lt, both_ways, and_from}
 use Rattle.decomposition.specs.Graph.{Graph, IsNet, IsPath, is_path, edge_count, tail, has_edge}
 use Rattle.decomposition.specs.Answer.{sum_below}
 use Rattle.decomposition.specs.Flow.{IsBalanced, Decomposes, EmptiesEdge, rest_after}
 use Rattle.decomposition.specs.FirstAnswer.{path_width, IsWidest, IsWidestFirst}
-use Rattle.decomposition.specs.Laws.{FlowsHaveEmptyingPaths}
 use Rattle.decomposition.proofs.Sums.{sum_below_first}
 use Rattle.decomposition.proofs.Members.{any-cons, any-here, any-there, any-from_place}
 use Rattle.decomposition.proofs.Root.{all-cons}
 use Rattle.decomposition.proofs.Walks.{walk-inside, walk-distinct}
+use Rattle.decomposition.proofs.Flows.{flows_have_emptying_paths}
 use Rattle.decomposition.proofs.Balance.{rest_after-balanced}
 use Rattle.decomposition.proofs.FewPaths.{positive_count, fewer, sums_more}
 use Rattle.greedy_paths.specs.Greedy.{positive_edges}
@@ -74,11 +75,11 @@ fewer_left g rest new p width widest is after =
     rw equal (rw same at less)
 
 -- where no path has width, no edge of a balanced flow has flow
-no_flow : (g : Graph) (flow : ℕ → ℕ) → FlowsHaveEmptyingPaths → IsNet g → IsBalanced g flow → ((p : List ℕ) → IsPath g p → path_width flow p ≡ 0) → (e : ℕ) → e < edge_count g → 0 ≡ flow e
-no_flow g flow law net balanced none e there =
+no_flow : (g : Graph) (flow : ℕ → ℕ) → IsNet g → IsBalanced g flow → ((p : List ℕ) → IsPath g p → path_width flow p ≡ 0) → (e : ℕ) → e < edge_count g → 0 ≡ flow e
+no_flow g flow net balanced none e there =
     ⊎_elim
     (λ (more : 0 < flow e).
-    let found = law g flow net balanced e there more in
+    let found = flows_have_emptying_paths g flow net balanced e there more in
     absurd (narrow found.0 found.1 found.3 (none found.0 found.3.path)))
     (λ (zero' : flow e ≤ 0). omega arith)
     (cases_lt 0 (flow e))
@@ -90,12 +91,12 @@ no_flow g flow law net balanced none e there =
         let one : 1 ≤ flow d = empties.positive in
         omega (arith, empties.least at.0 at.1, at.2)
 
-pub Decomposes-widest : (g : Graph) (flow : ℕ → ℕ) (a : List (List ℕ × ℕ)) → FlowsHaveEmptyingPaths → IsNet g → IsBalanced g flow → IsWidestFirst g flow a → Decomposes g flow a × (length a ≤ positive_count g flow)
-Decomposes-widest g flow [] law net balanced none = (record { answer = refl; sums = no_flow g flow law net balanced none }, omega arith)
-Decomposes-widest g flow (x ∷ a) law net balanced (widest, is, more) =
+pub Decomposes-widest : (g : Graph) (flow : ℕ → ℕ) (a : List (List ℕ × ℕ)) → IsNet g → IsBalanced g flow → IsWidestFirst g flow a → Decomposes g flow a × (length a ≤ positive_count g flow)
+Decomposes-widest g flow [] net balanced none = (record { answer = refl; sums = no_flow g flow net balanced none }, omega arith)
+Decomposes-widest g flow (x ∷ a) net balanced (widest, is, more) =
     let enough : (f : ℕ) → has_edge x.0 f ≡ true → x.1 ≤ flow f = λ f hit. omega (arith, is, path_width-le flow x.0 f hit) in
     let one : 1 ≤ path_width flow x.0 = widest.positive in
-    let rest = Decomposes-widest g (rest_after flow x.0 x.1) a law net (rest_after-balanced g net flow x.0 x.1 widest.path enough balanced) more in (
+    let rest = Decomposes-widest g (rest_after flow x.0 x.1) a net (rest_after-balanced g net flow x.0 x.1 widest.path enough balanced) more in (
       record {
         answer = all-cons (λ entry. is_path g entry.0 && nat_le 1 entry.1) x a (and_from (is_path g x.0) (nat_le 1 x.1) widest.path (le-leb 1 x.1 (omega arith))) rest.0.answer;
         sums = λ e there. sums_more flow x.0 x.1 a e enough (rest.0.sums e there);
@@ -131,10 +132,7 @@ LeavesRest-more g flow answer rest new p width left count widest is after = reco
 }
 
 pub LeavesRest-all : (g : Graph) (flow : List ℕ) (answer : List (List ℕ × ℕ)) (rest : List ℕ) → LeavesRest g flow answer rest → ((p : List ℕ) → IsPath g p → path_width (slice_index rest) p ≡ 0) → IsWidestFirst g (slice_index flow) answer
-LeavesRest-all g flow answer rest left none = subst (IsWidestFirst g (slice_index flow)) (append-none answer) (left.goes_on [] none) where
-  append-none : (a : List (List ℕ × ℕ)) → a ++ [] ≡ a
-  append-none [] = refl
-  append-none (x ∷ a) = ap (λ xs. x ∷ xs) (append-none a)
+LeavesRest-all g flow answer rest left none = subst (IsWidestFirst g (slice_index flow)) (append-nil answer) (left.goes_on [] none)
 
 -- the edges of a path are edges, each once, and have its width left
 module _ (g : Graph) (rest : ℕ → ℕ) (p : List ℕ) where

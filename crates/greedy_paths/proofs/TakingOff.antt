@@ -7,12 +7,13 @@ use Rattle.decomposition.specs.Graph.{has_edge}
 use Rattle.decomposition.specs.Flow.{rest_after}
 use Rattle.decomposition.proofs.Members.{any-place}
 
+or-none : (b : Bool) → (b || false) ≡ b
+or-none true = refl
+or-none false = refl
+
 -- one more edge at the end of a list
 has_edge-push : (es : List ℕ) (f e : ℕ) → has_edge (es ++ f ∷ []) e ≡ (has_edge es e || (e == f))
-has_edge-push [] f e = or-none (e == f) where
-  or-none : (b : Bool) → (b || false) ≡ b
-  or-none true = refl
-  or-none false = refl
+has_edge-push [] f e = or-none (e == f)
 has_edge-push (d ∷ es) f e = rw (has_edge-push es f e) (or-assoc (e == d) (has_edge es e) (e == f)) where
   or-assoc : (a b c : Bool) → (a || (b || c)) ≡ ((a || b) || c)
   or-assoc true b c = refl
@@ -48,7 +49,3 @@ module _ (old : ℕ → ℕ) (path : List ℕ) (weight i : ℕ) (h : i < length 
       (λ (other : e ≢ slice_index path i).
       rw (ne_eqb e (slice_index path i) other, or-none (has_edge (take i path) e)) (get_or-set_other rest (slice_index path i) e (slice_index rest (slice_index path i) - weight) 0 other ∙ so_far e))
       (cases_eq e (slice_index path i)))
-    where
-      or-none : (b : Bool) → (b || false) ≡ b
-      or-none true = refl
-      or-none false = refl

@@ -15,7 +15,7 @@ use thiserror::Error;
 /// Why a flow has no first answer.
 #[derive(Debug, Drop, Error)]
 pub enum GreedyFault {
-    #[error("as much enters vertex {vertex} as does not leave it")]
+    #[error("the flow into vertex {vertex} is not the flow out of it")]
     Unbalanced { vertex: u32 },
     #[error("edge {edge} has {booked} booked units and a flow of {flow}")]
     Overbooked { edge: u32, booked: u64, flow: u64 },
