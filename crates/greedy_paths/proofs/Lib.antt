@@ -1,4 +1,3 @@
-pub mod FlowSums
 pub mod Widening
 pub mod Finding
 pub mod Choosing

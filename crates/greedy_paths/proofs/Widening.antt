@@ -10,8 +10,7 @@ use Rattle.decomposition.specs.Graph.{Graph, IsNet, edge_count, tail, head, is_s
 use Rattle.decomposition.proofs.Walks.{IsStep, walk-cons, walk-from_step}
 use Rattle.dag_net.specs.Chain.{IsFirstOut}
 use Rattle.dag_net.specs.Order.{IsOrder}
-use Rattle.dag_net.proofs.Walks.{Contains-edge}
-use Rattle.dag_net.proofs.Nets.{inside-from_net}
+use Rattle.decomposition.proofs.Nets.{Contains-edge, inside-from_net}
 use Rattle.dag_net.proofs.Ordering.{at_place, same_place}
 use Rattle.greedy_paths.specs.Widths.{walk_width, LeadsToSink, HasWidth, IsWidthFrom, HeadsHaveWidths, HaveWidthsFrom, AreWidths}
 

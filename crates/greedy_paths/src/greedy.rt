@@ -6,7 +6,6 @@ ghost use Rattle.decomposition.specs.Flow.{Decomposes, rest_after};
 ghost use Rattle.decomposition.specs.FirstAnswer.{IsWidestFirst};
 ghost use Rattle.greedy_paths.specs.Greedy.{IsRefusal, positive_edges};
 
-use crate::balance::first_unbalanced;
 use crate::widest::widest_path;
 use dag_net::{Answer, Net};
 use std::alloc::{AllocError, Global};
@@ -43,7 +42,7 @@ pub fn decompose(alloc: Global, net: &Net, flow: &[u64]) -> Result<Answer, Greed
     ensures widest { IfOk result (IsWidestFirst net.now (slice_index flow.now)) }
     ensures refusal { IfErr result (IsRefusal net.now (slice_index flow.now)) }
 {
-    if let Some(vertex) = first_unbalanced(alloc, net, flow)? {
+    if let Some(vertex) = net.first_unbalanced(alloc, flow)? {
         return Err(GreedyFault::Unbalanced { vertex });
     }
     let answer = widest_first(alloc, net, flow)?;

@@ -3,7 +3,6 @@
 
 pub use greedy::{GreedyFault, decompose};
 
-mod balance;
 mod greedy;
 mod widest;
 mod widths;
