@@ -6,3 +6,4 @@ pub mod Groups
 pub mod Places
 pub mod Left
 pub mod Steps
+pub mod LinesIn

@@ -1,13 +1,13 @@
 -- The numbers and the first lines of blocks.
-use Rattle.std.specs.Prelude.{◌≡◌, ℕ, suc, ◌+◌, ◌-◌, ◌≤◌, ◌<◌, ◌==◌, List, [], ◌∷◌, ◌++◌, length, take, drop, Bool, true, false, not, ◌&&◌, ◌||◌, if◌then◌else◌, refl}
-use Rattle.std.specs.List.{list_any, prefix_len}
-use Rattle.std.proofs.Common.{sym, ◌∙◌, ap, subst, arith, inl, inr, true≢false}
-use Rattle.std.proofs.lemmas.Bool.{cond-true, cond-false, cond_both, cases_Bool, and_parts, and_right, ne_eqb}
-use Rattle.std.proofs.lemmas.List.{append_assoc, append-nil, length_push, length-append, length-drop, take-append-le}
+use Rattle.std.specs.Prelude.{◌≡◌, ℕ, suc, ◌+◌, ◌<◌, List, [], ◌∷◌, ◌++◌, length, drop, Bool, true, false, not, ◌&&◌, ◌||◌, if◌then◌else◌, refl}
+use Rattle.std.specs.List.{prefix_len}
+use Rattle.std.proofs.Common.{sym, ◌∙◌, ap, arith}
+use Rattle.std.proofs.lemmas.Bool.{cond-false, cond_both, ne_eqb}
+use Rattle.std.proofs.lemmas.List.{length-drop}
 use Rattle.std.proofs.lemmas.List.Folds.{prefix_len-append}
 use Rattle.std.proofs.lemmas.List.Sums.{prefix_len-le-length}
 use Rattle.graph_text.specs.Lines.{lines_of, is_blank_line, is_hash_line, is_content_line}
-use Rattle.graph_text.specs.Blocks.{TextBlock, groups, join_first, groups_of, all_but_last, graphs, is_graph, numbered, lead, complete, blocks}
+use Rattle.graph_text.specs.Blocks.{TextBlock, groups, join_first, groups_of, all_but_last, graphs, is_graph, numbered, complete, blocks}
 use Rattle.graph_text.specs.Progress.{last_group}
 use Rattle.graph_text.proofs.Growing.{past_blank, groups_of-is, lead-is}
 use Rattle.graph_text.proofs.Groups.{grouped, begins_at, front-push}
