@@ -1,10 +1,10 @@
 -- The lines of the block in progress as they are read, with their numbers.
 use Rattle.std.specs.Prelude.{◌≡◌, ℕ, ◌+◌, ◌-◌, ◌<◌, List, [], ◌∷◌, ◌++◌, length, false, true, All, ◌⊎◌, refl}
-use Rattle.std.proofs.Common.{sym, ◌∙◌, ap, subst, arith, inl, inr}
+use Rattle.std.proofs.Common.{◌∙◌, ap, arith, inl, inr}
 use Rattle.std.proofs.lemmas.Bool.{cond-true, cond-false}
 use Rattle.std.proofs.lemmas.List.{length_push}
 use Rattle.graph_text.specs.Lines.{without_return, is_blank_line}
-use Rattle.graph_text.specs.Progress.{Progress, with_line, after_byte, with_open}
+use Rattle.graph_text.specs.Progress.{Progress, with_line, after_byte}
 use Rattle.graph_text.specs.Reading.{Line, line_at, numbered_lines}
 use Rattle.graph_text.proofs.Steps.{IsLeft, numbered_lines-push, numbered_lines-below}
 
