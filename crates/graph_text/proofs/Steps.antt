@@ -5,6 +5,7 @@ use Rattle.std.proofs.Common.{sym, ◌∙◌, ap, subst, arith, inl, inr, true�
 use Rattle.std.proofs.lemmas.Bool.{cond-true, cond-false, cond_both, cases_Bool, and_parts, and_right, and_from, or_parts, or_from, eqb-true, false_from_ne_true, both_ways}
 use Rattle.std.proofs.lemmas.List.{append-nil, append_assoc, length_push, length-append, take-append-drop, take-take, nil_from_length}
 use Rattle.std.proofs.lemmas.List.Folds.{list_any-append}
+use Rattle.std.proofs.lemmas.List.Sums.{sum_by-append, count_by-le-length}
 use Rattle.graph_text.specs.Lines.{without_return, is_blank, is_blank_line, is_hash_line, is_content_line, is_run_line, fields_of, are_no_fields, are_run_fields}
 use Rattle.graph_text.specs.Blocks.{complete, blocks, is_graph}
 use Rattle.graph_text.specs.Progress.{Progress, is_feed, left_by, triggers, with_line, after_byte, block_in, completed, last_block}
@@ -203,6 +204,11 @@ feeds-blank (b ∷ span) h =
 pub IsQuiet-blank : (p : Progress) (span : List ℕ) → IsLeft p → list_all is_blank span ≡ true → IsQuiet p span
 IsQuiet-blank p span left blank =
     IsQuiet-hashless p span left (ap has_hash (sym (append-nil span)) ∙ hash-blanks span [] blank) (feeds-blank span blank)
+
+-- the number of the line in progress grows by one a byte at most
+pub line-grows : (bytes piece : List ℕ) → (left_by (bytes ++ piece)).line ≤ (left_by bytes).line + length piece
+line-grows bytes piece =
+    omega (arith, sum_by-append (λ b. if is_feed b then 1 else 0) bytes piece, count_by-le-length is_feed piece)
 
 -- where no byte up to a place completes a block, none up to an earlier one does
 pub complete-earlier : (bytes piece : List ℕ) (m n : ℕ) → m ≤ n → complete (bytes ++ take n piece) ≡ complete bytes → complete (bytes ++ take m piece) ≡ complete bytes
