@@ -5,3 +5,4 @@ pub mod Progress
 pub mod Reading
 pub mod Draft
 pub mod Reader
+pub mod Examples

@@ -3,11 +3,14 @@
 
 mod block;
 mod draft;
+mod examples;
 mod labels;
+mod laws;
 mod reader;
 mod refusal;
 
 pub use block::{Block, RawGraph};
+pub use examples::{blocks_are_read, limits_are_kept, texts_are_cut};
 pub use labels::Labels;
-
+pub use laws::complete_blocks_stay;
 pub use refusal::{Refusal, Why};

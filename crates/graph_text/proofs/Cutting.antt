@@ -1,0 +1,74 @@
+-- Laws on cutting a text into lines and groups in two parts.
+use Rattle.std.specs.Prelude.{◌≡◌, ℕ, ◌==◌, List, [], ◌∷◌, ◌++◌, Bool, true, false, not, ◌&&◌, ◌||◌, if◌then◌else◌, refl}
+use Rattle.std.proofs.Common.{◌∙◌, ap}
+use Rattle.std.proofs.lemmas.Bool.{cond_both}
+use Rattle.graph_text.specs.Lines.{spelled_lines, onto_first, is_hash_line, is_content_line}
+use Rattle.graph_text.specs.Blocks.{groups, join_first}
+
+pub if_same : {A B : Type 0} (b : Bool) (f : A → B) (x y : B) (u v : A) → x ≡ f u → y ≡ f v → (if b then x else y) ≡ f (if b then u else v)
+if_same true f x y u v p q = p
+if_same false f x y u v p q = q
+
+-- there is a line
+abbrev HasLine : List (List ℕ) → Type 0
+HasLine [] = ⊥
+HasLine (line ∷ lines) = Unit {0}
+
+onto_has : (b : ℕ) (lines : List (List ℕ)) → HasLine (onto_first b lines)
+onto_has b [] = tt
+onto_has b (line ∷ lines) = tt
+
+spelled_has : (bytes : List ℕ) → HasLine (spelled_lines (bytes ++ 10 ∷ []))
+spelled_has [] = tt
+spelled_has (b ∷ bytes) =
+    let rest = spelled_lines (bytes ++ 10 ∷ []) in
+    cond_both (b == 10) ([] ∷ rest) (onto_first b rest) HasLine (λ yes. tt) (λ no. onto_has b rest)
+
+onto_append : (b : ℕ) (lines more : List (List ℕ)) → HasLine lines → onto_first b (lines ++ more) ≡ onto_first b lines ++ more
+onto_append b [] more h = absurd h
+onto_append b (line ∷ lines) more h = refl
+
+-- a line feed ends a line, whatever follows
+pub spelled_lines-feed : (bytes more : List ℕ) → spelled_lines (bytes ++ 10 ∷ more) ≡ spelled_lines (bytes ++ 10 ∷ []) ++ spelled_lines more
+spelled_lines-feed [] more = refl
+spelled_lines-feed (b ∷ bytes) more =
+    let rest = spelled_lines (bytes ++ 10 ∷ []) in
+    let same : spelled_lines (bytes ++ 10 ∷ more) ≡ rest ++ spelled_lines more = spelled_lines-feed bytes more in
+    if_same (b == 10) (λ lines. lines ++ spelled_lines more) _ _ ([] ∷ rest) (onto_first b rest)
+    (ap (λ lines. [] ∷ lines) same) (ap (onto_first b) same ∙ onto_append b rest (spelled_lines more) (spelled_has bytes))
+
+-- whether a content line of the last group stands before what follows these lines
+abbrev pub filled_after : Bool → List (List ℕ) → Bool
+filled_after filled [] = filled
+filled_after filled (line ∷ lines) = filled_after (is_content_line line || (filled && not (is_hash_line line && filled))) lines
+
+-- the last group of the first list goes on as the first group of the second
+abbrev pub glued : List (List (List ℕ)) → List (List (List ℕ)) → List (List (List ℕ))
+glued [] others = others
+glued (group ∷ []) [] = group ∷ []
+glued (group ∷ []) (other ∷ others) = (group ++ other) ∷ others
+glued (group ∷ next ∷ rest) others = group ∷ glued (next ∷ rest) others
+
+pub join_first-glued : (line : List ℕ) (gs others : List (List (List ℕ))) → join_first line (glued gs others) ≡ glued (join_first line gs) others
+join_first-glued line [] [] = refl
+join_first-glued line [] (other ∷ others) = refl
+join_first-glued line (group ∷ []) [] = refl
+join_first-glued line (group ∷ []) (other ∷ others) = refl
+join_first-glued line (group ∷ next ∷ rest) others = refl
+
+empty_glued : (line : List ℕ) (gs others : List (List (List ℕ))) → [] ∷ glued (join_first line gs) others ≡ glued ([] ∷ join_first line gs) others
+empty_glued line [] others = refl
+empty_glued line (group ∷ gs) others = refl
+
+-- the groups of lines in two parts
+pub groups-append : (filled : Bool) (lines more : List (List ℕ)) →
+    groups filled (lines ++ more) ≡ glued (groups filled lines) (groups (filled_after filled lines) more)
+groups-append filled [] more = refl
+groups-append filled (line ∷ lines) more =
+    let begins = is_hash_line line && filled in
+    let next = is_content_line line || (filled && not begins) in
+    let rest : join_first line (groups next (lines ++ more)) ≡ glued (join_first line (groups next lines)) (groups (filled_after next lines) more) =
+    ap (join_first line) (groups-append next lines more) ∙ join_first-glued line (groups next lines) _ in
+    let others = groups (filled_after next lines) more in
+    if_same begins (λ gs. glued gs others) _ _ ([] ∷ join_first line (groups next lines)) (join_first line (groups next lines))
+    (ap (λ gs. [] ∷ gs) rest ∙ empty_glued line (groups next lines) others) rest
