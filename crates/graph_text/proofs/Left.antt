@@ -11,7 +11,7 @@ use Rattle.graph_text.specs.Progress.{Progress, is_feed, last_group, with_line, 
 use Rattle.graph_text.proofs.Growing.{has_hash, hash-is, groups_of-is}
 use Rattle.graph_text.proofs.OpenLine.{open_lines, IsCut, cut-lines, cut-feed, cut-byte, cut, hash-without_return}
 use Rattle.graph_text.proofs.Groups.{grouped, begins_at, last-push, front-push}
-use Rattle.graph_text.proofs.Places.{total, lines-parts, placed, numbered-push, length-numbered, complete-is, blocks-is, graph_in, placed-push, groups-parts}
+use Rattle.graph_text.proofs.BlockPlaces.{total, lines-parts, placed, numbered-push, length-numbered, complete-is, blocks-is, graph_in, placed-push, groups-parts}
 
 -- whether the line in progress begins a group behind these lines
 abbrev pub starts : List (List ℕ) → List ℕ → Bool

@@ -3,7 +3,7 @@ pub mod Cutting
 pub mod BlankText
 pub mod OpenLine
 pub mod Groups
-pub mod Places
+pub mod BlockPlaces
 pub mod Left
 pub mod Steps
 pub mod LinesIn
