@@ -1,3 +1,5 @@
 pub mod Places
 pub mod Naming
 pub mod Mentions
+pub mod Splitting
+pub mod Weights

@@ -3,6 +3,7 @@
 
 mod block;
 mod draft;
+mod fields;
 mod labels;
 mod reader;
 mod refusal;
