@@ -135,6 +135,13 @@ Grows-at line a b a' b' m n e e' f g = record {
   same = let h = g.same in cc;
 }
 
+-- lists of refusals put one behind the other
+pub Grows-append : (line : ℕ) (a b a' b' : List Refusal) (m n : Option Refusal) → Grows line (earliest a) (earliest a') m → Grows line (earliest b) (earliest b') n → Grows line (earliest (a ++ b)) (earliest (a' ++ b')) (or_else m n)
+Grows-append line a b a' b' m n p q =
+    Grows-at line (merge (earliest a) (earliest b)) (earliest (a ++ b)) (merge (earliest a') (earliest b')) (earliest (a' ++ b')) (or_else m n) (or_else m n)
+    (sym (earliest-append a b)) (sym (earliest-append a' b')) refl
+    (Grows-merge line (earliest a) (earliest b) (earliest a') (earliest b') m n p q)
+
 either : (why : Why) (l : Line) (a b : Bool) → or_else (refusal_if why l a) (refusal_if why l b) ≡ refusal_if why l (a || b)
 either why l true b = refl
 either why l false b = refl
