@@ -1,2 +1,3 @@
 pub mod Earliest
 pub mod LineByLine
+pub mod SettledRefusals

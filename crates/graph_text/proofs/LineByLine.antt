@@ -102,7 +102,7 @@ edge-more lines l h e =
     ap (drop 1) more ∙ drop-append-le 1 (content_lines lines) (l ∷ []) (omega arith))
 
 -- what the refusals grow by, kind by kind
-record GrowsBy (line : ℕ) (mode : Mode) (lines lines' : List Line) (long count fields weight range repeat many : Option Refusal) : Type 0 where
+pub record GrowsBy (line : ℕ) (mode : Mode) (lines lines' : List Line) (long count fields weight range repeat many : Option Refusal) : Type 0 where
   pub long_grows : Grows line (earliest (refused LongLine (long_lines lines))) (earliest (refused LongLine (long_lines lines'))) long
   pub count_grows : Grows line (earliest (refused BadCount (filter (λ l. not (is_count l.fields)) (count_lines lines)))) (earliest (refused BadCount (filter (λ l. not (is_count l.fields)) (count_lines lines')))) count
   pub fields_grow : Grows line (earliest (refused BadFields (bad_fields mode lines))) (earliest (refused BadFields (bad_fields mode lines'))) fields
@@ -111,7 +111,7 @@ record GrowsBy (line : ℕ) (mode : Mode) (lines lines' : List Line) (long count
   pub repeats_grow : Grows line (earliest (refused RepeatedEdge (repeats (edge_lines lines)))) (earliest (refused RepeatedEdge (repeats (edge_lines lines')))) repeat
   pub many_grow : Grows line (earliest (refused TooManyEdges (take 1 (drop most_edges (edge_lines lines))))) (earliest (refused TooManyEdges (take 1 (drop most_edges (edge_lines lines'))))) many
 
-Grows-all : (line : ℕ) (mode : Mode) (lines lines' : List Line) (m n o p q r s : Option Refusal) → GrowsBy line mode lines lines' m n o p q r s → Grows line (earliest (settled_refusals mode lines)) (earliest (settled_refusals mode lines')) (or_else (or_else (or_else (or_else (or_else (or_else m n) o) p) q) r) s)
+pub Grows-all : (line : ℕ) (mode : Mode) (lines lines' : List Line) (m n o p q r s : Option Refusal) → GrowsBy line mode lines lines' m n o p q r s → Grows line (earliest (settled_refusals mode lines)) (earliest (settled_refusals mode lines')) (or_else (or_else (or_else (or_else (or_else (or_else m n) o) p) q) r) s)
 Grows-all line mode lines lines' m n o p q r s g =
     let long = λ (x : List Line). refused LongLine (long_lines x) in
     let count = λ (x : List Line). refused BadCount (filter (λ l. not (is_count l.fields)) (count_lines x)) in
