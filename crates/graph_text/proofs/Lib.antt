@@ -1,3 +1,5 @@
+pub mod Places
+pub mod Naming
 pub mod Earliest
 pub mod LineByLine
 pub mod SettledRefusals
