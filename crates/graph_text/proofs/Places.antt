@@ -1,5 +1,5 @@
 -- The first place of an element in a list: through a map, and where a test decides equality.
-use Rattle.std.proofs.Common.{◌≡◌, ℕ, zero, suc, ◌+◌, ◌<◌, ◌≤◌, Bool, true, false, not, cond, ltb, ◌||◌, List, [], ◌∷◌, map, length, get_or, slice_get, position, Option, None, Some, Contains, refl, sym, ap, ◌∙◌, arith}
+use Rattle.std.proofs.Common.{◌≡◌, ℕ, ◌+◌, ◌<◌, ◌≤◌, Bool, true, not, cond, ltb, ◌||◌, List, [], ◌∷◌, map, length, get_or, slice_get, position, Option, None, Some, Contains, refl, sym, ap, ◌∙◌, arith}
 use Rattle.std.specs.Bool.{Decides}
 use Rattle.std.specs.List.{list_any, position_or_len}
 use Rattle.std.specs.Option.{MatchOption, option_map}

@@ -1,5 +1,4 @@
-use Rattle.std.proofs.Common.{ℕ, List, [], map, refl, ap, rules, arith, ◌≡◌}
-use Rattle.graph_text.specs.Labels.{AreLabels}
+use Rattle.std.proofs.Common.{map, ap, arith}
 use Rattle.graph_text.proofs.Naming.{AreLabels-empty}
 use Rattle.graph_text.proofs.labels.Labels.empty.Goals as goal
 
