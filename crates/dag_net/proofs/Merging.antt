@@ -1,33 +1,26 @@
 -- Equal paths made one.
-use Rattle.std.proofs.Common.{◌≡◌, ◌≢◌, ℕ, zero, suc, ◌+◌, ◌<◌, ◌≤◌, ◌++◌, ◌∷◌, [], List, false, cond, nat_lt, length, get_or, slice_set, refl, sym, ap, subst, ◌∙◌, inl, inr, arith, Bool, true, lt-ltb, le-leb, nat_le, not, ◌&&◌, ◌||◌}
+use Rattle.std.proofs.Common.{◌≡◌, ◌≢◌, ℕ, zero, suc, ◌+◌, ◌<◌, ◌≤◌, ◌++◌, ◌∷◌, [], List, false, cond, nat_lt, length, get_or, slice_set, refl, sym, ap, subst, ◌∙◌, inl, inr, arith, Bool, lt-ltb, ◌||◌}
 use Rattle.std.specs.Prelude.{All, ◌==◌}
 use Rattle.std.specs.List.{IsDistinct, AllByRecursion, list_any}
 use Rattle.std.specs.List.Sorted.{IsPermutation}
 use Rattle.std.specs.Cmp.Lexicographic.{pointwise}
-use Rattle.std.proofs.lemmas.Bool.{cases_Bool, cond-true, cond-false, and_from, and_parts, not_from_false, not-true, both_ways}
+use Rattle.std.proofs.lemmas.Bool.{cases_Bool, cond-true, cond-false}
 use Rattle.std.proofs.lemmas.Cmp.{nat_list_eq_equiv}
 use Rattle.std.proofs.lemmas.List.Elements.{All-set, All-push, All-contains, Contains-append_left, Contains-append_right, Contains-get_or}
-use Rattle.std.proofs.lemmas.List.Recursion.{is_sum_by}
 use Rattle.std.proofs.lemmas.List.Sorted.{sum_by-IsPermutation, All-permutation}
 use Rattle.std.proofs.lemmas.List.Sums.{sum_by-set, sum_by_push, sum_by-cons}
 use Rattle.std.proofs.lemmas.Map.Keys.{IsDistinct-IsPermutation}
 use Rattle.std.proofs.lemmas.Slice.Eq.{bytes_eq-Decides}
-use Rattle.decomposition.specs.Graph.{Graph, has_edge, is_path}
-use Rattle.decomposition.specs.Answer.{weight_on, IsAnswer, Covers}
-use Rattle.decomposition.specs.Answer.{weight_of, IsMerged}
-use Rattle.decomposition.proofs.Members.{any-here, any-place, any-from_place}
-use Rattle.decomposition.proofs.Root.{all-place, Covers-by}
+use Rattle.decomposition.specs.Graph.{has_edge}
+use Rattle.decomposition.specs.Answer.{weight_on}
+use Rattle.decomposition.specs.Answer.{IsMerged}
+use Rattle.decomposition.proofs.Members.{any-here}
 use Rattle.decomposition.proofs.Open.{all-from_places}
 use Rattle.dag_net.proofs.Lists.{Contains-head}
-use Rattle.dag_net.specs.Answer.{HaveSamePaths}
-use Rattle.dag_net.specs.Merge.{weight_where, same_path, AddsWeight, Merges}
-
--- the weight on an edge, the weight of a path and the total are one sum
-pub weight_on-where : (answer : List (List ℕ × ℕ)) (e : ℕ) → weight_on answer e ≡ weight_where (λ p. has_edge p e) answer
-weight_on-where answer e = is_sum_by (λ a. weight_on a e) (λ entry. cond (has_edge entry.0 e) entry.1 0) refl (λ _ _. refl) answer
-
-pub weight_of-where : (answer : List (List ℕ × ℕ)) (p : List ℕ) → weight_of answer p ≡ weight_where (λ q. pointwise (λ d e. d == e) q p) answer
-weight_of-where answer p = is_sum_by (λ a. weight_of a p) (λ entry. cond (pointwise (λ d e. d == e) entry.0 p) entry.1 0) refl (λ _ _. refl) answer
+use Rattle.decomposition.specs.Answer.{HaveSamePaths}
+use Rattle.dag_net.specs.Merge.{weight_where, AddsWeight, Merges}
+use Rattle.decomposition.specs.Answer.{same_path}
+use Rattle.decomposition.proofs.Merging.{weight_on-where, weight_of-where}
 
 -- what holds of each path holds so after a change of a weight
 kept-set : (P : List ℕ → Type 0) (xs : List (List ℕ × ℕ)) (i w : ℕ) (x : List ℕ × ℕ) → i < length xs → x ≡ get_or xs i x
@@ -137,24 +130,3 @@ any-weight test (x ∷ xs) h =
 pub HaveSamePaths-Merges : (old new : List (List ℕ × ℕ)) → Merges old new → All (λ entry. 1 ≤ entry.1) old → HaveSamePaths old new
 HaveSamePaths-Merges old new m positive test =
     any-weight test new (m.positive positive) ∙ ap (nat_lt 0) (m.sums test) ∙ sym (any-weight test old positive)
-
--- what is made of an answer by merging is an answer
-pub IsAnswer-same_paths : (g : Graph) (old new : List (List ℕ × ℕ)) → HaveSamePaths old new → All (λ entry. 1 ≤ entry.1) new → IsAnswer g old → IsAnswer g new
-IsAnswer-same_paths g old new same positive answer =
-    all-from_places (λ entry. is_path g entry.0 && nat_le 1 entry.1) new ([], 0) (λ k there. and_from (is_path g (get_or new k ([], 0)).0) (nat_le 1 (get_or new k ([], 0)).1) (path k there) (le-leb _ _ (positive k ([], 0) there)))
-  where
-    path : (k : ℕ) → k < length new → is_path g (get_or new k ([], 0)).0 ≡ true
-    path k there =
-        elim (cases_Bool (is_path g (get_or new k ([], 0)).0)) [
-          | inl yes' ↦ yes'
-          | inr other ↦
-              let some : list_any (λ (entry : List ℕ × ℕ). not (is_path g entry.0)) new ≡ true
-              = any-from_place (λ (entry : List ℕ × ℕ). not (is_path g entry.0)) new ([], 0) k there (not_from_false _ other) in
-              let at = any-place (λ (entry : List ℕ × ℕ). not (is_path g entry.0)) old ([], 0) (sym (same (λ p. not (is_path g p))) ∙ some) in
-              let parts = and_parts _ _ (all-place (λ entry. is_path g entry.0 && nat_le 1 entry.1) old ([], 0) at.0 answer at.1) in
-              absurd (both_ways _ (not-true _ at.2) parts.0)
-        ]
-
--- and it covers what that answer covers
-pub Covers-same_paths : (rules : List (List ℕ)) (old new : List (List ℕ × ℕ)) → HaveSamePaths old new → Covers rules old → Covers rules new
-Covers-same_paths rules old new same covers = Covers-by rules old new (λ test h. same test ∙ h) covers

@@ -2,7 +2,7 @@ ghost use Rattle.std.specs.Prelude.{◌≡◌, ℕ, ◌<◌, ◌≤◌, ◌^◌,
 ghost use Rattle.decomposition.specs.Answer.{weight_on};
 ghost use Rattle.decomposition.specs.Answer.{IsMerged};
 ghost use Rattle.decomposition.specs.Answer.{entry_at};
-ghost use Rattle.dag_net.specs.Answer.{total_weight, HaveSamePaths, IsInReportOrder};
+ghost use Rattle.decomposition.specs.Answer.{total_weight, HaveSamePaths, IsInReportOrder};
 
 use crate::ids::Ids;
 use crate::tidying::{merge, put_in_order};

@@ -3,7 +3,8 @@ ghost use Rattle.std.specs.Ordering.{nat_cmp, ordering_then};
 ghost use Rattle.std.specs.Cmp.Lexicographic.{slice_cmp};
 ghost use Rattle.std.specs.List.Sorted.{IsPermutation};
 ghost use Rattle.decomposition.specs.Answer.{entry_at};
-ghost use Rattle.dag_net.specs.Answer.{total_weight, IsInReportOrder};
+ghost use Rattle.std.specs.List.{IsDistinct};
+ghost use Rattle.decomposition.specs.Answer.{total_weight, same_path, IsInReportOrder};
 ghost use Rattle.dag_net.specs.Merge.{AddsWeight, Merges};
 
 use crate::ids::Ids;
@@ -59,8 +60,9 @@ fn report_order(a: &(Ids, u64), b: &(Ids, u64)) -> Ordering
     }
 }
 
-/// Brings the entries into report order.
+/// Brings entries with different paths into report order.
 pub fn put_in_order(entries: &mut Vec<(Ids, u64)>) -> Result<(), AllocError>
+    requires { IsDistinct same_path entries.old.items }
     ensures order { OnOk result (IsInReportOrder entries.new.items) }
     ensures permutation { IsPermutation entries.old.items entries.new.items }
 {

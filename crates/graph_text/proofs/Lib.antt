@@ -3,3 +3,8 @@ pub mod Naming
 pub mod Mentions
 pub mod Splitting
 pub mod Weights
+pub mod Earliest
+pub mod LineByLine
+pub mod SettledRefusals
+pub mod Repeats
+pub mod GraphOfLines
