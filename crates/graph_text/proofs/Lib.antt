@@ -7,3 +7,13 @@ pub mod BlockPlaces
 pub mod Left
 pub mod Steps
 pub mod LinesIn
+pub mod Places
+pub mod Naming
+pub mod Mentions
+pub mod Splitting
+pub mod Weights
+pub mod Earliest
+pub mod LineByLine
+pub mod SettledRefusals
+pub mod Repeats
+pub mod GraphOfLines

@@ -1,8 +1,10 @@
 pub mod Labels
+pub mod KeptLabels
 pub mod Lines
 pub mod Blocks
 pub mod Progress
 pub mod Reading
+pub mod LineFaults
 pub mod Draft
 pub mod Reader
 pub mod Examples

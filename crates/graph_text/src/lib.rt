@@ -4,6 +4,7 @@
 mod block;
 mod draft;
 mod examples;
+mod fields;
 mod labels;
 mod laws;
 mod reader;
