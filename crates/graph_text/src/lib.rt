@@ -9,5 +9,4 @@ mod refusal;
 
 pub use block::{Block, RawGraph};
 pub use labels::Labels;
-
 pub use refusal::{Refusal, Why};
