@@ -1,10 +1,10 @@
 -- What two calls in a row send, and what a call that failed leaves.
-use Rattle.std.proofs.Common.{◌≡◌, ℕ, ◌+◌, ◌<◌, List, [], ◌∷◌, ◌++◌, length, take, drop, get_or, Option, sym, ◌∙◌, ap, append_assoc, append-nil, refl, subst}
-use Rattle.std.specs.Prelude.{Result, Ok, Err, OnErr, flat_map}
-use Rattle.std.proofs.lemmas.List.{take-append-drop, take_more}
+use Rattle.std.proofs.Common.{◌≡◌, ℕ, ◌+◌, ◌<◌, List, [], ◌∷◌, ◌++◌, length, take, drop, get_or, Option, sym, ◌∙◌, ap, append_assoc, append-nil, refl, subst, arith, length-append}
+use Rattle.std.specs.Prelude.{Result, Ok, Err, OnOk, OnErr, flat_map}
+use Rattle.std.proofs.lemmas.List.{take-append-drop, take_more, take_at}
 use Rattle.std.proofs.lemmas.List.Concat.{flat_map-append}
 use Rattle.flow_io.specs.Adding.{Adds-then, Adds-nothing}
-use Rattle.flow_io.specs.Outside.{AddsPrefix}
+use Rattle.flow_io.specs.Outside.{Adds, AddsPrefix}
 use Rattle.path_report.specs.Sending.{Sends, Stops}
 
 -- nothing was sent
@@ -78,3 +78,26 @@ pub Stops-next : {X : Type 0} {a b c : Option (List ℕ)} {held mid : List ℕ} 
 Stops-next f xs i d there s t =
     Stops-equal (ap (λ y. y ++ flat_map f (drop (i + 1) xs)) (flat_map-next f xs i d there) ∙ flat_map-rest f xs (i + 1))
     (Stops-before (flat_map f (drop (i + 1) xs)) (Stops-then s t))
+
+-- all that was sent, where nothing was held before and nothing is held now
+Adds-sent : {a b : Option (List ℕ)} {held text now : List ℕ} → held ≡ [] → now ≡ [] → Sends a b held text now → Adds a b text
+Adds-sent {a = a} {b = b} {text = text} none empty s =
+    subst (λ t. Adds a b t) (sym (append-nil s.sent) ∙ ap (λ x. s.sent ++ x) (sym empty) ∙ s.all ∙ ap (λ x. x ++ text) none) s.adds
+
+-- a part of a text was sent, where nothing was held before
+pub AddsPrefix-sent : {a b : Option (List ℕ)} {held text : List ℕ} → held ≡ [] → Stops a b held text → AddsPrefix a b text
+AddsPrefix-sent {a = a} {b = b} {text = text} none (lost, s) =
+    let whole : s.sent ++ lost ≡ text = s.all ∙ ap (λ x. x ++ text) none in
+    let part : take (length s.sent) text ≡ s.sent = ap (take (length s.sent)) (sym whole) ∙ take_at s.sent lost _ refl in
+    (length s.sent, omega (arith, ap length whole, length-append s.sent lost), subst (λ t. Adds a b t) (sym part) s.adds)
+
+-- the same for a call that writes what is held, as the last one
+pub ok_sent : {T E : Type 0} {a b : Option (List ℕ)} (c : Option (List ℕ)) {held text mid : List ℕ} (last : List ℕ) (r : Result T E) → held ≡ [] → Sends a b held text mid →
+    OnOk r (Sends b c mid [] last) → OnOk r (last ≡ []) → OnOk r (Adds a c text)
+ok_sent c last (Ok x) none s t empty = Adds-sent none empty (Sends-equal (append-nil _) (Sends-then s t))
+ok_sent c last (Err e) none s t empty = tt
+
+pub err_sent : {T E : Type 0} {a b : Option (List ℕ)} (c : Option (List ℕ)) {held text mid : List ℕ} (r : Result T E) → held ≡ [] → Sends a b held text mid →
+    OnErr r (Stops b c mid []) → OnErr r (AddsPrefix a c text)
+err_sent c (Ok x) none s t = tt
+err_sent c (Err e) none s t = AddsPrefix-sent none (Stops-equal (append-nil _) (Stops-then s t))

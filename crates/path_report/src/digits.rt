@@ -4,6 +4,7 @@ ghost use Rattle.std.specs.Prelude.{◌≡◌, decimal};
 use std::marker::Model;
 
 /// The decimal digits of a number, at the end of a few bytes.
+#[derive(Drop)]
 pub struct Digits {
     bytes: [u8; 20],
     start: usize,

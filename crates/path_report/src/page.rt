@@ -1,13 +1,15 @@
 //! Bytes that are held back, so that they are written many at a time.
-ghost use Rattle.std.specs.Prelude.{◌≡◌, ◌+◌, ◌≤◌, [], ◌∷◌, ◌++◌, length, map, flat_map, OnOk, OnErr};
+ghost use Rattle.std.specs.Prelude.{◌≡◌, ◌+◌, ◌≤◌, [], ◌∷◌, ◌++◌, length, map, flat_map, decimal, OnOk, OnErr};
 ghost use Rattle.flow_io.specs.Outside.{HasCause};
 ghost use Rattle.path_report.specs.ReportText.{line};
 ghost use Rattle.path_report.specs.Sending.{Sends, Stops, spaced};
 
+use crate::digits::Digits;
 use flow_io::{Fault, Output, write_whole};
 use std::marker::Model;
 
 /// The last bytes of a text, which are not written yet.
+#[derive(Drop)]
 pub struct Page {
     bytes: [u8; 4096],
     count: usize,
@@ -52,7 +54,8 @@ impl Page {
 
     /// Writes what is held.
     pub fn flush<O: Output>(&mut self, out: &mut O) -> Result<(), Fault>
-        ensures ok { OnOk result (Sends (O.written out.old) (O.written out.new) self.old [] self.new) }
+        ensures ok { OnOk result (Sends (O.written out.old) (O.written out.new)
+            self.old [] self.new) }
         ensures empty { OnOk result (self.new ≡ []) }
         ensures err { OnErr result (Stops (O.written out.old) (O.written out.new) self.old []) }
         ensures cause { HasCause (O.faults out.old) (O.faults out.new) result }
@@ -65,8 +68,10 @@ impl Page {
     /// Takes a piece where nothing is held.
     fn start<O: Output>(&mut self, out: &mut O, piece: &[u8]) -> Result<(), Fault>
         requires { self.old ≡ [] }
-        ensures ok { OnOk result (Sends (O.written out.old) (O.written out.new) self.old piece.now self.new) }
-        ensures err { OnErr result (Stops (O.written out.old) (O.written out.new) self.old piece.now) }
+        ensures ok { OnOk result (Sends (O.written out.old) (O.written out.new)
+            self.old piece.now self.new) }
+        ensures err { OnErr result (Stops (O.written out.old) (O.written out.new)
+            self.old piece.now) }
         ensures cause { HasCause (O.faults out.old) (O.faults out.new) result }
     {
         if self.room() < piece.len() {
@@ -78,8 +83,10 @@ impl Page {
 
     /// Takes a piece.
     pub fn put<O: Output>(&mut self, out: &mut O, piece: &[u8]) -> Result<(), Fault>
-        ensures ok { OnOk result (Sends (O.written out.old) (O.written out.new) self.old piece.now self.new) }
-        ensures err { OnErr result (Stops (O.written out.old) (O.written out.new) self.old piece.now) }
+        ensures ok { OnOk result (Sends (O.written out.old) (O.written out.new)
+            self.old piece.now self.new) }
+        ensures err { OnErr result (Stops (O.written out.old) (O.written out.new)
+            self.old piece.now) }
         ensures cause { HasCause (O.faults out.old) (O.faults out.new) result }
     {
         if self.room() < piece.len() {
@@ -92,18 +99,34 @@ impl Page {
 
     /// Takes a space and a field.
     pub fn field<O: Output>(&mut self, out: &mut O, field: &[u8]) -> Result<(), Fault>
-        ensures ok { OnOk result (Sends (O.written out.old) (O.written out.new) self.old (spaced field.now) self.new) }
-        ensures err { OnErr result (Stops (O.written out.old) (O.written out.new) self.old (spaced field.now)) }
+        ensures ok { OnOk result (Sends (O.written out.old) (O.written out.new)
+            self.old (spaced field.now) self.new) }
+        ensures err { OnErr result (Stops (O.written out.old) (O.written out.new)
+            self.old (spaced field.now)) }
         ensures cause { HasCause (O.faults out.old) (O.faults out.new) result }
     {
         self.put(out, b" ")?;
         self.put(out, field)
     }
 
+    /// Takes a space and the digits of a number.
+    pub fn number<O: Output>(&mut self, out: &mut O, number: u64) -> Result<(), Fault>
+        ensures ok { OnOk result (Sends (O.written out.old) (O.written out.new)
+            self.old (spaced (decimal number)) self.new) }
+        ensures err { OnErr result (Stops (O.written out.old) (O.written out.new)
+            self.old (spaced (decimal number))) }
+        ensures cause { HasCause (O.faults out.old) (O.faults out.new) result }
+    {
+        let digits = Digits::of(number);
+        self.field(out, digits.as_slice())
+    }
+
     /// Takes fields, a space before each.
     fn fields<O: Output>(&mut self, out: &mut O, fields: &[&[u8]]) -> Result<(), Fault>
-        ensures ok { OnOk result (Sends (O.written out.old) (O.written out.new) self.old (flat_map (λ f. spaced f.now) fields.now) self.new) }
-        ensures err { OnErr result (Stops (O.written out.old) (O.written out.new) self.old (flat_map (λ f. spaced f.now) fields.now)) }
+        ensures ok { OnOk result (Sends (O.written out.old) (O.written out.new)
+            self.old (flat_map (λ f. spaced f.now) fields.now) self.new) }
+        ensures err { OnErr result (Stops (O.written out.old) (O.written out.new)
+            self.old (flat_map (λ f. spaced f.now) fields.now)) }
         ensures cause { HasCause (O.faults out.old) (O.faults out.new) result }
     {
         for field in fields {
@@ -119,8 +142,10 @@ impl Page {
         word: &[u8],
         fields: &[&[u8]],
     ) -> Result<(), Fault>
-        ensures ok { OnOk result (Sends (O.written out.old) (O.written out.new) self.old (line (word.now ∷ map (λ f. f.now) fields.now)) self.new) }
-        ensures err { OnErr result (Stops (O.written out.old) (O.written out.new) self.old (line (word.now ∷ map (λ f. f.now) fields.now))) }
+        ensures ok { OnOk result (Sends (O.written out.old) (O.written out.new)
+            self.old (line (word.now ∷ map (λ f. f.now) fields.now)) self.new) }
+        ensures err { OnErr result (Stops (O.written out.old) (O.written out.new)
+            self.old (line (word.now ∷ map (λ f. f.now) fields.now))) }
         ensures cause { HasCause (O.faults out.old) (O.faults out.new) result }
     {
         self.put(out, word)?;
