@@ -1,0 +1,4 @@
+pub mod SendingLemmas
+pub mod Lines
+pub mod Runs
+pub mod Regular

@@ -1,0 +1,4 @@
+pub mod Names
+pub mod ReportText
+pub mod Sending
+pub mod Rows
