@@ -17,3 +17,4 @@ pub mod LineByLine
 pub mod SettledRefusals
 pub mod Repeats
 pub mod GraphOfLines
+pub mod Members
