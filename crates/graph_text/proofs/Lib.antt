@@ -17,3 +17,6 @@ pub mod LineByLine
 pub mod SettledRefusals
 pub mod Repeats
 pub mod GraphOfLines
+pub mod TextBlocks
+pub mod BlockNames
+pub mod RefusedLines

@@ -2,3 +2,4 @@ pub mod SendingLemmas
 pub mod Lines
 pub mod Runs
 pub mod Regular
+pub mod BlockNames
