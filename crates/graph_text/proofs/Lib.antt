@@ -18,3 +18,6 @@ pub mod SettledRefusals
 pub mod Repeats
 pub mod GraphOfLines
 pub mod Members
+pub mod TextBlocks
+pub mod BlockNames
+pub mod RefusedLines

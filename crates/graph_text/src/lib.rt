@@ -13,5 +13,5 @@ mod refusal;
 pub use block::{Block, RawGraph};
 pub use examples::{blocks_are_read, limits_are_kept, texts_are_cut};
 pub use labels::Labels;
-pub use laws::complete_blocks_stay;
+pub use laws::{blocks_of_texts, complete_blocks_stay, refusals_name_lines};
 pub use refusal::{Refusal, Why};

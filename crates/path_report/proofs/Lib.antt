@@ -3,3 +3,4 @@ pub mod Lines
 pub mod Runs
 pub mod Regular
 pub mod Lawful
+pub mod BlockNames
