@@ -8,3 +8,6 @@ pub mod LineByLine
 pub mod SettledRefusals
 pub mod Repeats
 pub mod GraphOfLines
+pub mod Finishing
+pub mod WholeLines
+pub mod Accepting

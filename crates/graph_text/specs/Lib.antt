@@ -7,3 +7,4 @@ pub mod Reading
 pub mod LineFaults
 pub mod Draft
 pub mod Reader
+pub mod Accepted
