@@ -39,6 +39,10 @@ line_refusals-content mode lines some =
     ++ refused RepeatedEdge (repeats (edge_lines lines)) ++ refused TooManyEdges (take 1 (drop most_edges (edge_lines lines))))
     (cond-false (length (content_lines lines) == 0) (last_filled lines) (filter (λ l. not (is_count l.fields)) (count_lines lines)) (ne_eqb (length (content_lines lines)) 0 differs))
 
+merge-later : (o : Option Refusal) (r : Refusal) → IfSome o (λ s. s.line ≤ r.line) → merge o (Some r) ≡ or_else o (Some r)
+merge-later None r low = refl
+merge-later (Some s) r low = cond-true (leb s.line r.line) (Some s) (Some r) (le-leb s.line r.line low)
+
 -- the refusal of the last line is later than one of a line before it
 merge-last : (o : Option Refusal) (lines : List Line) → Rises lines → ((n : ℕ) → All (λ l. l.number ≤ n) lines → IfSome o (λ s. s.line ≤ n))
     → merge o (earliest (refused BadCount (drop (length lines - 1) lines))) ≡ or_else o (earliest (refused BadCount (drop (length lines - 1) lines)))
@@ -49,7 +53,7 @@ merge-last o [] rises low = nothing o
     nothing (Some s) = refl
 merge-last o (l ∷ ls) rises low =
     ap (λ ks. merge o (earliest (refused BadCount ks))) last
-    ∙ first o (record { line = (get_or (l ∷ ls) (length ls) l).number; why = BadCount }) (low (get_or (l ∷ ls) (length ls) l).number under)
+    ∙ merge-later o (record { line = (get_or (l ∷ ls) (length ls) l).number; why = BadCount }) (low (get_or (l ∷ ls) (length ls) l).number under)
     ∙ ap (λ ks. or_else o (earliest (refused BadCount ks))) (sym last)
   where
     last : drop (length (l ∷ ls) - 1) (l ∷ ls) ≡ get_or (l ∷ ls) (length ls) l ∷ []
@@ -64,10 +68,6 @@ merge-last o (l ∷ ls) rises low =
         (λ more. let same : k ≡ length ls = omega arith in
         subst (λ (x : Line). x.number ≤ (get_or (l ∷ ls) (length ls) l).number) (ap (λ n. get_or (l ∷ ls) n l) (sym same) ∙ get_or_default (l ∷ ls) k l d within) (omega arith))
         (cases_lt k (length ls))
-
-    first : (o : Option Refusal) (r : Refusal) → IfSome o (λ s. s.line ≤ r.line) → merge o (Some r) ≡ or_else o (Some r)
-    first None r low = refl
-    first (Some s) r low = cond-true (leb s.line r.line) (Some s) (Some r) (le-leb s.line r.line low)
 
 -- Without one each edge line is missing, and the last line that is not blank is refused besides.
 module _ (mode : Mode) (lines : List Line) (none : content_lines lines ≡ []) where
@@ -106,15 +106,31 @@ module _ (mode : Mode) (lines : List Line) (none : content_lines lines ≡ []) w
       ap earliest line-none ∙ earliest-append (refused LongLine (long_lines lines)) (refused BadCount (last_filled lines))
       ∙ ap (λ rs. merge (earliest rs) (earliest (refused BadCount (last_filled lines)))) (sym settled-none)
 
+  long-low : (n : ℕ) → All (λ l. l.number ≤ n) (filled_lines lines) → IfSome (earliest (settled_refusals mode lines)) (λ s. s.line ≤ n)
+  long-low n low =
+      subst (λ rs. IfSome (earliest rs) (λ s. s.line ≤ n)) (sym settled-none)
+      (earliest-All (λ s. s.line ≤ n) (refused LongLine (long_lines lines))
+      (All-map (λ s. s.line ≤ n) (λ (l : Line). record { line = l.number; why = LongLine }) (long_lines lines)
+      (All-filter (λ (l : Line). nat_lt most_bytes l.bytes) (λ l. l.number ≤ n) (filled_lines lines) low)))
+
   -- where the numbers rise, a refusal that stays comes before that of the last line
   pub line_refusals-rising : Rises lines → earliest (line_refusals mode lines) ≡ or_else (earliest (settled_refusals mode lines)) (earliest (refused BadCount (last_filled lines)))
   line_refusals-rising rises =
       line_refusals-none
       ∙ merge-last (earliest (settled_refusals mode lines)) (filled_lines lines) (AllPairs-filter (λ a b. a.number ≤ b.number) (λ l. not (are_no_fields l.fields)) lines rises)
-      (λ n low. subst (λ rs. IfSome (earliest rs) (λ s. s.line ≤ n)) (sym settled-none)
-      (earliest-All (λ s. s.line ≤ n) (refused LongLine (long_lines lines))
-      (All-map (λ s. s.line ≤ n) (λ (l : Line). record { line = l.number; why = LongLine }) (long_lines lines)
-      (All-filter (λ (l : Line). nat_lt most_bytes l.bytes) (λ l. l.number ≤ n) (filled_lines lines) low))))
+      long-low
+
+  -- the same by the number of the last line
+  pub line_refusals-last : (n : ℕ) → map (λ l. l.number) (last_filled lines) ≡ n ∷ [] → All (λ l. l.number ≤ n) (filled_lines lines)
+      → earliest (line_refusals mode lines) ≡ or_else (earliest (settled_refusals mode lines)) (Some (record { line = n; why = BadCount }))
+  line_refusals-last n is low =
+      line_refusals-none ∙ ap (merge (earliest (settled_refusals mode lines))) (by (last_filled lines) is)
+      ∙ merge-later (earliest (settled_refusals mode lines)) (record { line = n; why = BadCount }) (long-low n low)
+    where
+      by : (ls : List Line) → map (λ l. l.number) ls ≡ n ∷ [] → earliest (refused BadCount ls) ≡ Some (record { line = n; why = BadCount })
+      by [] is = absurd (let e : n ∷ [] ≡ [] = sym is in cc)
+      by (l ∷ []) is = let e : l.number ∷ [] ≡ n ∷ [] = is in let same : l.number ≡ n = cc in ap (λ m. Some (record { line = m; why = BadCount })) same
+      by (l ∷ k ∷ ls) is = absurd (let e : l.number ∷ (k.number ∷ map (λ l. l.number) ls) ≡ n ∷ [] = is in cc)
 
 -- the earliest refusal of a line and others behind it
 pub earliest-least : (why : Why) (l : Line) (lines : List Line) → All (λ k. l.number ≤ k.number) lines → earliest (refused why (l ∷ lines)) ≡ Some (record { line = l.number; why = why })
@@ -199,12 +215,12 @@ edge_lines-rise lines rises = AllPairs-drop1 (content_lines lines) content
     AllPairs-drop1 [] h = h
     AllPairs-drop1 (l ∷ ls) h = λ i j d less within. h (suc i) (suc j) d (omega arith) (omega arith)
 
-pub lines_where-first : (test : ℕ → Bool) (why : Why) (lines : List Line) (e : ℕ) (d : Line) → e < length (edge_lines lines) → test e ≡ true → ((f : ℕ) → f < e → test f ≡ false) → Rises lines
+pub lines_where-first : (test : ℕ → Bool) (why : Why) (lines : List Line) (e : ℕ) (d : Line) → e < length (edge_lines lines) → test e ≡ true → ((f : ℕ) → f < e → test f ≡ false) → Rises (edge_lines lines)
     → earliest (refused why (lines_where test lines)) ≡ Some (record { line = (get_or (edge_lines lines) e d).number; why = why })
 lines_where-first test why lines e d within t before rises =
     let same : (k : ℕ) → k ≡ 0 + k = λ k. omega arith in
     from-first test why 0 (edge_lines lines) e d within (subst (λ k. test k ≡ true) (same e) t)
-    (λ f low. subst (λ k. test k ≡ false) (same f) (before f low)) (edge_lines-rise lines rises)
+    (λ f low. subst (λ k. test k ≡ false) (same f) (before f low)) rises
 
 module _ (graph : RawGraph) (lines : List Line) (each : edge_count graph.net ≡ length (edge_lines lines)) where
   -- In a net no edge closes a cycle.
@@ -217,7 +233,7 @@ module _ (graph : RawGraph) (lines : List Line) (each : edge_count graph.net ≡
       false_from_ne_true _ (closes_none graph.net (edge_count graph.net) e (omega arith) whole (omega arith)))
 
   -- The first edge that closes a cycle is refused by its line.
-  pub cycle_lines-first : (e : ℕ) (d : Line) → FollowsNet graph.net e → ClosesCycle graph.net e → Rises lines
+  pub cycle_lines-first : (e : ℕ) (d : Line) → FollowsNet graph.net e → ClosesCycle graph.net e → Rises (edge_lines lines)
       → earliest (refused Cycle (cycle_lines graph lines)) ≡ Some (record { line = (get_or (edge_lines lines) e d).number; why = Cycle })
   cycle_lines-first e d follows closes rises =
       lines_where-first (closes_cycle graph.net) Cycle lines e d (omega (arith, follows.there)) (closes_some graph.net e follows.before closes)
@@ -284,7 +300,7 @@ module _ (graph : RawGraph) (lines : List Line) where
 
   -- The first inner vertex that is not balanced is refused by the first line that names it.
   pub unconserved_lines-first : (v : ℕ) → v < graph.net.vertices → IsFirstUnbalanced graph.net weight_of v
-      → (e : ℕ) (d : Line) → e < length (edge_lines lines) → names_vertex v e ≡ true → ((f : ℕ) → f < e → names_vertex v f ≡ false) → Rises lines
+      → (e : ℕ) (d : Line) → e < length (edge_lines lines) → names_vertex v e ≡ true → ((f : ℕ) → f < e → names_vertex v f ≡ false) → Rises (edge_lines lines)
       → earliest (refused Unconserved (unconserved_lines Exact graph lines)) ≡ Some (record { line = (get_or (edge_lines lines) e d).number; why = Unconserved })
   unconserved_lines-first v vertex first e d within t before rises =
       let unbalanced : is_unbalanced graph v ≡ true =

@@ -11,3 +11,4 @@ pub mod GraphOfLines
 pub mod Finishing
 pub mod WholeLines
 pub mod Accepting
+pub mod Verdicts
