@@ -21,3 +21,7 @@ pub mod Members
 pub mod TextBlocks
 pub mod BlockNames
 pub mod RefusedLines
+pub mod Finishing
+pub mod WholeLines
+pub mod Accepting
+pub mod Verdicts

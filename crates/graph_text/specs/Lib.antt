@@ -8,3 +8,4 @@ pub mod LineFaults
 pub mod Draft
 pub mod Reader
 pub mod Examples
+pub mod Accepted
