@@ -5,5 +5,6 @@ pub mod Blocks
 pub mod Progress
 pub mod Reading
 pub mod LineFaults
+pub mod DraftGraph
 pub mod Draft
 pub mod Reader
