@@ -5,3 +5,5 @@ pub mod Earliest
 pub mod LineByLine
 pub mod SettledRefusals
 pub mod Repeats
+pub mod Splitting
+pub mod Weights

@@ -3,6 +3,8 @@
 
 mod block;
 mod draft;
+mod draft_graph;
+mod fields;
 mod labels;
 mod reader;
 mod refusal;
