@@ -7,3 +7,4 @@ pub mod SettledRefusals
 pub mod Repeats
 pub mod Splitting
 pub mod Weights
+pub mod DraftGraphs

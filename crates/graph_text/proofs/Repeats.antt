@@ -3,7 +3,7 @@ use Rattle.std.proofs.Common.{◌≡◌, ℕ, ◌+◌, ◌<◌, ◌≤◌, Bool,
 use Rattle.std.specs.Bool.{MatchBool}
 use Rattle.std.specs.List.{All, Any, list_any}
 use Rattle.std.specs.Str.{bytes_eq}
-use Rattle.std.proofs.lemmas.Bool.{and_parts, false_from_ne_true}
+use Rattle.std.proofs.lemmas.Bool.{and_parts, false_from_ne_true, false≢true}
 use Rattle.std.proofs.lemmas.List.{get_or-map, length-map, get_or_default}
 use Rattle.std.proofs.lemmas.List.Elements.{Contains-get_or}
 use Rattle.std.proofs.lemmas.List.Folds.{Any-from_list_any, list_any_at}
@@ -13,7 +13,7 @@ use Rattle.graph_text.specs.DraftGraph.{HasEdge}
 use Rattle.graph_text.specs.Reading.{Line, same_fields, ends_of, vertex_of, pair_in, edge_of}
 use Rattle.graph_text.proofs.Places.{place_of_contained}
 use Rattle.graph_text.proofs.Naming.{Contains-with_name, Contains-with_name_same, vertex_of-kept, vertex_of-with_name}
-use Rattle.graph_text.proofs.Mentions.{names_in, ends-Contains}
+use Rattle.graph_text.proofs.Mentions.{names_in, ends-Contains, names_in-push, tail_number, edges_in-push}
 
 -- a list of two
 two_of : {X : Type 0} (xs : List X) (d : X) → length xs ≡ 2 → xs ≡ get_or xs 0 d ∷ get_or xs 1 d ∷ []
@@ -173,4 +173,27 @@ module _ (edges : List Line) (l : Line) (u v : List ℕ) (ends : ends_of l ≡ u
       → MatchBool is_new (¬ Contains l2.edges (un, vn)) (Contains l2.edges (un, vn))
       → MatchBool is_new (l3 ≡ record { names = l2.names; edges = l2.edges ++ (un, vn) ∷ [] }) (l3 ≡ l2)
       → (l3.names ≡ names_in (edges ++ l ∷ [])) × (l3.edges ≡ map (edge_of (names_in (edges ++ l ∷ []))) (edges ++ l ∷ []))
-  labels-push l0 l1 l2 l3 un vn is_new n0 e0 none s1 u1 s2 v2 new added = ?
+  labels-push l0 l1 l2 l3 un vn is_new n0 e0 none s1 u1 s2 v2 new added =
+      let first : l1.names ≡ with_name (names_in edges) u = ap (λ (x : LabelLists). x.names) s1 ∙ ap (λ x. with_name x u) n0 in
+      let second : l2.names ≡ with_name (with_name (names_in edges) u) v = ap (λ (x : LabelLists). x.names) s2 ∙ ap (λ x. with_name x v) first in
+      let kept : l2.edges ≡ map (edge_of (names_in edges)) edges = ap (λ (x : LabelLists). x.edges) s2 ∙ ap (λ (x : LabelLists). x.edges) s1 ∙ e0 in
+      let third : l2.names ≡ names_in (edges ++ l ∷ []) = second ∙ sym (names_in-push edges l u v ends) in
+      let tail_is : un ≡ vertex_of (with_name (names_in edges) u) u = u1 ∙ ap (λ x. vertex_of x u) first in
+      let head_is : vn ≡ vertex_of (with_name (with_name (names_in edges) u) v) v = v2 ∙ ap (λ x. vertex_of x v) second in
+      by is_new third kept tail_is head_is (v2 ∙ ap (λ x. vertex_of x v) third) new added
+    where
+      by : (is_new : Bool) → l2.names ≡ names_in (edges ++ l ∷ []) → l2.edges ≡ map (edge_of (names_in edges)) edges
+          → un ≡ vertex_of (with_name (names_in edges) u) u → vn ≡ vertex_of (with_name (with_name (names_in edges) u) v) v → vn ≡ vertex_of (names_in (edges ++ l ∷ [])) v
+          → MatchBool is_new (¬ Contains l2.edges (un, vn)) (Contains l2.edges (un, vn))
+          → MatchBool is_new (l3 ≡ record { names = l2.names; edges = l2.edges ++ (un, vn) ∷ [] }) (l3 ≡ l2)
+          → (l3.names ≡ names_in (edges ++ l ∷ [])) × (l3.edges ≡ map (edge_of (names_in (edges ++ l ∷ []))) (edges ++ l ∷ []))
+      by true third kept tail_is head_is head_last new added =
+          (ap (λ (x : LabelLists). x.names) added ∙ third,
+          ap (λ (x : LabelLists). x.edges) added
+          ∙ ap (λ x. x ++ (un, vn) ∷ []) kept
+          ∙ (λ i. map (edge_of (names_in edges)) edges ++ ((tail_is ∙ sym (tail_number edges l u v ends)) i, head_last i) ∷ [])
+          ∙ sym (edges_in-push edges l u v ends))
+      by false third kept tail_is head_is head_last new added =
+          let there : Contains (map (edge_of (names_in edges)) edges) (un, vn) = subst (λ (x : List (ℕ × ℕ)). Contains x (un, vn)) kept new in
+          let same : ◌≡◌ {A = ℕ × ℕ} (un, vn) new_edge = λ i. (tail_is i, head_is i) in
+          absurd (false≢true (sym (repeats-from_no_edge l0 n0 e0 none) ∙ repeats-from_new false (subst (Contains (map (edge_of (names_in edges)) edges)) same there)))

@@ -1,13 +1,17 @@
 //! The graph of a block while its edge lines come.
-ghost use Rattle.std.specs.Prelude.{◌≡◌, ℕ, ◌<◌, ◌≤◌, ◌*◌, ◌↔◌, List, [], ◌∷◌, ◌++◌, length, vec_len, All, IsTrue, IfOk, None};
+ghost use Rattle.std.specs.Prelude.{◌≡◌, ℕ, ◌<◌, ◌≤◌, ◌*◌, ◌==◌, ◌↔◌, false, List, [], ◌∷◌, ◌++◌, length, vec_len, All, IsTrue, IfOk, None};
+ghost use Rattle.std.specs.List.{list_any};
 ghost use Rattle.decomposition.specs.declared.Mode.{Mode as Model};
 ghost use Rattle.graph_text.specs.Labels.{is_field};
-ghost use Rattle.graph_text.specs.LineFaults.{fault_among};
+ghost use Rattle.graph_text.specs.LineFaults.{fault_among, fault_of_edge};
 ghost use Rattle.graph_text.specs.Reading.{Line, most_weight, ends_of, range_of};
+ghost use Rattle.graph_text.specs.ShownLine.{ShowsLine};
 
+use crate::edge_line::read_range;
+use crate::fields::fields;
 use crate::labels::Labels;
 use crate::refusal::Why;
-use dag_net::{Range, Ranges};
+use dag_net::{Mode, Range, Ranges};
 use std::alloc::{AllocError, Global};
 
 /// The most edges of a block.
@@ -78,5 +82,23 @@ impl DraftGraph {
         let v = self.labels.add_vertex(head)?;
         let _is_new = self.labels.add_edge(u, v)?;
         Ok(None)
+    }
+
+    /// Takes an edge line, or says what is wrong with it.
+    pub fn add_line(&mut self, mode: Mode, number: u64, is_long: bool, text: &[u8]) -> Result<Option<Why>, AllocError>
+        requires one_line { list_any (λ b. b == 10) text.now ≡ false }
+        ensures fault { IfOk result (λ fault. (edges : List Line) (line : Line) → HoldsEdges mode edges self.old
+            → ShowsLine number is_long text.now line → fault ≡ fault_of_edge mode edges line) }
+        ensures added { IfOk result (λ fault. (edges : List Line) (line : Line) → HoldsEdges mode edges self.old
+            → ShowsLine number is_long text.now line → fault ≡ None → HoldsEdges mode (edges ++ line ∷ []) self.new) }
+    {
+        if is_long {
+            return Ok(Some(Why::LongLine));
+        }
+        let fields = fields(self.allocator(), text)?;
+        match read_range(mode, &fields) {
+            Ok(range) => self.add(number, fields[0], fields[1], range),
+            Err(why) => Ok(Some(why)),
+        }
     }
 }

@@ -4,6 +4,7 @@
 mod block;
 mod draft;
 mod draft_graph;
+mod edge_line;
 mod fields;
 mod labels;
 mod reader;
