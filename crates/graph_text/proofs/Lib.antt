@@ -4,6 +4,7 @@ pub mod Mentions
 pub mod Earliest
 pub mod LineByLine
 pub mod SettledRefusals
+pub mod EdgeFields
 pub mod Repeats
 pub mod Splitting
 pub mod Weights

@@ -30,7 +30,10 @@ pub fn read_range(mode: Mode, fields: &[&[u8]]) -> Result<Range, Why>
     if fields.len() != 2 + weights_of(mode) {
         return Err(Why::BadFields);
     }
-    let (Some(lo), Some(hi)) = (parse_weight(fields[2]), parse_weight(fields[fields.len() - 1])) else {
+    let Some(lo) = parse_weight(fields[2]) else {
+        return Err(Why::BadWeight);
+    };
+    let Some(hi) = parse_weight(fields[fields.len() - 1]) else {
         return Err(Why::BadWeight);
     };
     if hi < lo {
