@@ -9,3 +9,4 @@ pub mod Repeats
 pub mod Splitting
 pub mod Weights
 pub mod DraftGraphs
+pub mod Drafting
