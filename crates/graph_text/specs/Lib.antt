@@ -9,3 +9,4 @@ pub mod ShownLine
 pub mod DraftGraph
 pub mod Draft
 pub mod Reader
+pub mod Accepted
