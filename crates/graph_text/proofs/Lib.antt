@@ -15,6 +15,7 @@ pub mod Weights
 pub mod Earliest
 pub mod LineByLine
 pub mod SettledRefusals
+pub mod EdgeFields
 pub mod Repeats
 pub mod GraphOfLines
 pub mod Members
@@ -25,3 +26,5 @@ pub mod Finishing
 pub mod WholeLines
 pub mod Accepting
 pub mod Verdicts
+pub mod DraftGraphs
+pub mod Drafting

@@ -4,6 +4,8 @@
 mod accepted;
 mod block;
 mod draft;
+mod draft_graph;
+mod edge_line;
 mod examples;
 mod fields;
 mod labels;
