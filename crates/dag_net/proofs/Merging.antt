@@ -1,7 +1,7 @@
 -- Equal paths made one.
-use Rattle.std.proofs.Common.{◌≡◌, ◌≢◌, ℕ, zero, suc, ◌+◌, ◌<◌, ◌≤◌, ◌++◌, ◌∷◌, [], List, false, cond, nat_lt, length, get_or, slice_set, refl, sym, ap, subst, ◌∙◌, inl, inr, arith, Bool, lt-ltb, ◌||◌}
+use Rattle.std.proofs.Common.{◌≡◌, ℕ, suc, ◌+◌, ◌<◌, ◌≤◌, ◌++◌, ◌∷◌, [], List, cond, nat_lt, length, get_or, slice_set, refl, sym, ap, ◌∙◌, inl, inr, arith, Bool, lt-ltb, ◌||◌}
 use Rattle.std.specs.Prelude.{All, ◌==◌}
-use Rattle.std.specs.List.{IsDistinct, AllByRecursion, list_any}
+use Rattle.std.specs.List.{IsDistinct, list_any}
 use Rattle.std.specs.List.Sorted.{IsPermutation}
 use Rattle.std.specs.Cmp.Lexicographic.{pointwise}
 use Rattle.std.proofs.lemmas.Bool.{cases_Bool, cond-true, cond-false}
@@ -10,7 +10,6 @@ use Rattle.std.proofs.lemmas.List.Elements.{All-set, All-push, All-contains, Con
 use Rattle.std.proofs.lemmas.List.Sorted.{sum_by-IsPermutation, All-permutation}
 use Rattle.std.proofs.lemmas.List.Sums.{sum_by-set, sum_by_push, sum_by-cons}
 use Rattle.std.proofs.lemmas.Map.Keys.{IsDistinct-IsPermutation}
-use Rattle.std.proofs.lemmas.Slice.Eq.{bytes_eq-Decides}
 use Rattle.decomposition.specs.Graph.{has_edge}
 use Rattle.decomposition.specs.Answer.{weight_on}
 use Rattle.decomposition.specs.Answer.{IsMerged}
@@ -19,7 +18,7 @@ use Rattle.decomposition.proofs.Open.{all-from_places}
 use Rattle.dag_net.proofs.Lists.{Contains-head}
 use Rattle.decomposition.specs.Answer.{HaveSamePaths}
 use Rattle.dag_net.specs.Merge.{weight_where, AddsWeight, Merges}
-use Rattle.decomposition.specs.Answer.{same_path, total_weight}
+use Rattle.decomposition.specs.Answer.{same_path}
 use Rattle.decomposition.proofs.Merging.{weight_on-where, weight_of-where}
 
 module _ (entries : List (List ℕ × ℕ)) (path : List ℕ) (weight : ℕ) where
@@ -63,9 +62,6 @@ Merges-of_permuted old moved new p m = record {
   once = m.once;
   positive = λ h. m.positive (All-permutation (λ entry. 1 ≤ entry.1) old moved p h);
 }
-
-pub total-permuted : (old moved : List (List ℕ × ℕ)) → IsPermutation old moved → total_weight moved ≡ total_weight old
-total-permuted old moved p = sum_by-IsPermutation (λ (entry : List ℕ × ℕ). entry.1) old moved p
 
 -- what is merged adds up to what was merged and the entry
 pub Merges-more : (old merged new : List (List ℕ × ℕ)) (path : List ℕ) (weight : ℕ) → Merges old merged → AddsWeight merged new path weight → IsDistinct same_path new → Merges (old ++ (path, weight) ∷ []) new

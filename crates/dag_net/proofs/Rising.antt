@@ -1,6 +1,5 @@
 -- Entries in the rising order of their paths: no path stands twice.
-use Rattle.std.proofs.Common.{◌≡◌, ◌≢◌, ◌==◌, ℕ, suc, ◌+◌, ◌-◌, ◌<◌, ◌≤◌, ◌++◌, ◌∷◌, [], List, Bool, true, false, not, ◌&&◌, ◌||◌, nat_lt, length, length-append, get_or, slice_set, add-one, refl, sym, ap, subst, ◌∙◌, inl, inr, arith, true≢false, eqb-true, eq-eqb, ltb-true, lt-ltb, get_or-set_same, get_or-set_other}
-use Rattle.std.specs.Prelude.{IsTrue}
+use Rattle.std.proofs.Common.{◌≡◌, ◌==◌, ℕ, suc, ◌-◌, ◌<◌, ◌++◌, ◌∷◌, [], List, true, false, not, ◌&&◌, nat_lt, length, length-append, get_or, slice_set, add-one, refl, sym, ap, subst, ◌∙◌, inl, inr, arith, eqb-true, eq-eqb, ltb-true, lt-ltb, get_or-set_same, get_or-set_other}
 use Rattle.std.specs.List.{IsDistinct, AllByRecursion}
 use Rattle.std.specs.Cmp.Lexicographic.{slice_cmp, pointwise}
 use Rattle.std.specs.Cmp.{IsTotalOrder}
@@ -14,7 +13,7 @@ use Rattle.std.proofs.lemmas.Slice.Eq.{bytes_eq-Decides}
 use Rattle.std.proofs.Math.Seq.{get_or-append_seam}
 use Rattle.decomposition.specs.Graph.{is_list_le, is_list_before}
 use Rattle.decomposition.specs.Answer.{entry_at, is_ordered, same_path}
-use Rattle.decomposition.proofs.ReportOrder.{is_list_le-cmp, is_ordered-place, is_ordered-from_places, is_list_before-from_le}
+use Rattle.decomposition.proofs.ReportOrder.{is_list_le-cmp, is_ordered-place, is_ordered-from_places}
 use Rattle.dag_net.specs.Merge.{AreSorted, AreRising}
 
 -- by rising edge list

@@ -1,4 +1,4 @@
-use Rattle.std.proofs.Common.{◌≡◌, ◌<◌, ◌-◌, ◌++◌, ◌∷◌, [], List, ℕ, true, length, length-append, append_assoc, refl, sym, ap, subst, ◌∙◌, arith}
+use Rattle.std.proofs.Common.{◌≡◌, ◌++◌, ◌∷◌, [], List, ℕ, true, length, length-append, append_assoc, refl, sym, ap, subst, ◌∙◌, arith}
 use Rattle.decomposition.specs.Graph.{is_list_le}
 use Rattle.dag_net.specs.Merge.{Merges, AreSorted, AreRising}
 use Rattle.dag_net.proofs.Merging.{Merges-none, Merges-more}
@@ -26,7 +26,7 @@ loop-path-preserved c =
     let entry : List ℕ × ℕ = (c.in-Some.path, c.in-Some.weight) in
     let sorted = subst (λ (rest : List (List ℕ × ℕ)). AreSorted (yielded ++ rest)) c.in-Some.ensures.steps.0 c.loop-path.invariant.2 in (
       Merges-more yielded c.loop-path.merged.items c.add_weight.new.entries.items c.in-Some.path c.in-Some.weight c.loop-path.invariant.0 c.in_ok-add_weight.ensures.adds
-      (once-rising c.add_weight.new.entries.items c.in_ok-add_weight.ensures.rising),
+          (once-rising c.add_weight.new.entries.items c.in_ok-add_weight.ensures.rising),
       c.in_ok-add_weight.ensures.rising,
       subst AreSorted (sym (append_assoc yielded (entry ∷ []) c.next.new.self.rest.items)) sorted,
       λ some. (
