@@ -28,3 +28,5 @@ pub mod Accepting
 pub mod Verdicts
 pub mod DraftGraphs
 pub mod Drafting
+pub mod KeptLines
+pub mod Holding

@@ -8,6 +8,8 @@ pub mod LineFaults
 pub mod ShownLine
 pub mod DraftGraph
 pub mod Draft
+pub mod OpenLine
+pub mod Cutter
 pub mod Reader
 pub mod Examples
 pub mod Accepted

@@ -1,10 +1,10 @@
 //! What is known of a block while its lines come.
-ghost use Rattle.std.specs.Prelude.{◌≡◌, ℕ, true, ◌==◌, ◌<◌, List, [], ◌∷◌, ◌++◌, length, All, Option, IfOk, OnOk, false};
+ghost use Rattle.std.specs.Prelude.{◌≡◌, ℕ, true, not, ◌||◌, ◌==◌, ◌<◌, List, [], ◌∷◌, ◌++◌, length, All, Option, IfOk, OnOk, false};
 ghost use Rattle.std.specs.List.{list_any};
 ghost use Rattle.decomposition.specs.declared.Mode.{Mode as Model};
 ghost use Rattle.graph_text.specs.LineFaults.{fault_of_count, refusal_at};
 ghost use Rattle.graph_text.specs.ShownLine.{ShowsLine};
-ghost use Rattle.graph_text.specs.Reading.{Line, content_lines, filled_lines, or_else, read_lines};
+ghost use Rattle.graph_text.specs.Reading.{Line, content_lines, filled_lines, run_lines, or_else, read_lines};
 
 use crate::block::RawGraph;
 use crate::draft_graph::DraftGraph;
@@ -71,6 +71,14 @@ impl Draft {
         ensures { (mode : Model) (lines : List Line) → Drafts mode lines self.now → result ≡ list_any is_content lines }
     {
         self.is_filled
+    }
+
+    /// Whether the lines are a graph: a content line has come, or a `#S` line.
+    pub fn is_graph(&self) -> bool
+        ensures { (mode : Model) (lines : List Line) → Drafts mode lines self.now
+            → result ≡ (list_any is_content lines || not (length (run_lines lines) == 0)) }
+    {
+        self.is_filled || self.later.is_some()
     }
 
     /// Takes the next line: its number, whether it is too long, and a text with its fields. After an `Err` the draft is of no use.

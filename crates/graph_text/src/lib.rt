@@ -3,6 +3,7 @@
 
 mod accepted;
 mod block;
+mod cutter;
 mod draft;
 mod draft_graph;
 mod edge_line;
@@ -10,6 +11,7 @@ mod examples;
 mod fields;
 mod labels;
 mod laws;
+mod open_line;
 mod reader;
 mod refusal;
 
@@ -18,4 +20,5 @@ pub use block::{Block, RawGraph};
 pub use examples::{blocks_are_read, limits_are_kept, texts_are_cut};
 pub use labels::Labels;
 pub use laws::{blocks_of_texts, complete_blocks_stay, refusals_name_lines};
+pub use reader::BlockReader;
 pub use refusal::{Refusal, Why};
