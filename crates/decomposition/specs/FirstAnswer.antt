@@ -1,7 +1,6 @@
 -- The widest-first list of a flow, booked paths, and the first answer.
-use Rattle.std.specs.Prelude.{◌≡◌, ℕ, ◌+◌, ◌-◌, ◌≤◌, ◌<◌, ◌⊎◌, min, ◌==◌, nat_lt, cond, List, [], ◌∷◌, ◌++◌, map, IsTrue, MatchBool}
-use Rattle.std.specs.List.{AllByRecursion, list_any, list_all, IsDistinct}
-use Rattle.std.specs.Cmp.Lexicographic.{pointwise}
+use Rattle.std.specs.Prelude.{◌≡◌, ℕ, ◌-◌, ◌≤◌, ◌<◌, ◌⊎◌, min, List, [], ◌∷◌, ◌++◌, map, IsTrue, MatchBool}
+use Rattle.std.specs.List.{AllByRecursion, list_any}
 use Rattle.decomposition.specs.Graph.{Graph, IsPath, edge_count, tail, head, contains_run, is_list_le}
 use Rattle.decomposition.specs.Answer.{weight_on, IsMerged}
 use Rattle.decomposition.specs.Flow.{rest_after}

@@ -2,13 +2,22 @@
 #![tactic(auto)]
 
 mod bytes;
-mod memory;
+mod front;
+mod host;
+mod mem_inputs;
+mod mem_output;
 mod outside;
 mod status;
+mod sure;
 mod whole;
+mod word;
 
 pub use bytes::Bytes;
-pub use memory::{MemOutput, SureInputs, SureOutput};
+pub use host::{HostInputs, HostOutput};
+pub use mem_inputs::MemInputs;
+pub use mem_output::MemOutput;
 pub use outside::{Fault, Inputs, Output};
 pub use status::Status;
+pub use sure::{SureInputs, SureOutput};
 pub use whole::write_whole;
+pub use word::Word;

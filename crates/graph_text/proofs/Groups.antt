@@ -1,14 +1,13 @@
 -- The groups of lines, and how one line more changes them.
-use Rattle.std.specs.Prelude.{◌≡◌, ℕ, suc, ◌+◌, ◌-◌, ◌≤◌, ◌<◌, List, [], ◌∷◌, ◌++◌, length, take, drop, Bool, true, false, not, ◌&&◌, ◌||◌, if◌then◌else◌, refl}
-use Rattle.std.specs.List.{list_any, prefix_len}
-use Rattle.std.proofs.Common.{sym, ◌∙◌, ap, subst, arith, inl, inr, true≢false}
+use Rattle.std.specs.Prelude.{◌≡◌, ℕ, List, [], ◌∷◌, ◌++◌, Bool, true, false, not, ◌&&◌, ◌||◌, if◌then◌else◌, refl}
+use Rattle.std.specs.List.{list_any}
+use Rattle.std.proofs.Common.{sym, ◌∙◌, ap, subst, inl, inr, true≢false}
 use Rattle.std.proofs.lemmas.Bool.{cond-true, cond-false, cond_both, cases_Bool, and_parts, and_right}
-use Rattle.std.proofs.lemmas.List.{append_assoc, append-nil, length_push, length-append, length-drop, take-append-le}
+use Rattle.std.proofs.lemmas.List.{append-nil}
 use Rattle.std.proofs.lemmas.List.Folds.{list_any-append}
-use Rattle.std.proofs.Math.Seq.{take-append_seam}
 use Rattle.graph_text.specs.Lines.{fields_of, are_no_fields, are_hash_fields, is_blank_line, is_hash_line, is_content_line}
-use Rattle.graph_text.specs.Blocks.{TextBlock, groups, join_first, all_but_last, graphs, is_graph, numbered}
-use Rattle.graph_text.specs.Progress.{last_group, with_line, without_open}
+use Rattle.graph_text.specs.Blocks.{groups, join_first, all_but_last}
+use Rattle.graph_text.specs.Progress.{last_group, with_line}
 use Rattle.graph_text.proofs.Growing.{past_blank, past_true, past_false}
 use Rattle.graph_text.proofs.Cutting.{groups-append, glued, filled_after}
 use Rattle.graph_text.proofs.OpenLine.{grow}

@@ -1,17 +1,17 @@
 -- What a text leaves, told by its lines that have ended and the line in progress.
-use Rattle.std.specs.Prelude.{◌≡◌, ℕ, suc, ◌+◌, ◌-◌, ◌≤◌, ◌<◌, ◌==◌, List, [], ◌∷◌, ◌++◌, length, take, count_by, Bool, true, false, not, ◌&&◌, ◌||◌, if◌then◌else◌, refl}
+use Rattle.std.specs.Prelude.{◌≡◌, ℕ, ◌+◌, ◌-◌, ◌<◌, ◌==◌, List, [], ◌∷◌, ◌++◌, length, take, Bool, true, false, not, ◌&&◌, ◌||◌, if◌then◌else◌, refl}
 use Rattle.std.specs.List.{list_any, list_all, prefix_len, after_last}
 use Rattle.std.proofs.Common.{sym, ◌∙◌, ap, subst, arith, inl, inr, true≢false}
-use Rattle.std.proofs.lemmas.Bool.{cond-true, cond-false, cond_both, cases_Bool, and_parts, and_right, eqb-true, false_from_ne_true}
+use Rattle.std.proofs.lemmas.Bool.{cond-true, cond-false, cond_both, cases_Bool, and_parts, eqb-true, false_from_ne_true}
 use Rattle.std.proofs.lemmas.List.{append-nil, length_push, length-append}
 use Rattle.std.proofs.Math.Seq.{take-append_seam}
-use Rattle.graph_text.specs.Lines.{lines_of, without_return, is_blank, is_blank_line, is_hash_line, is_content_line}
+use Rattle.graph_text.specs.Lines.{without_return, is_blank, is_blank_line, is_content_line}
 use Rattle.graph_text.specs.Blocks.{TextBlock, groups_of, all_but_last, is_graph, complete, blocks}
 use Rattle.graph_text.specs.Progress.{Progress, is_feed, last_group, with_line, without_open, left_by, triggers, after_byte, block_in, completed, with_open, last_block}
 use Rattle.graph_text.proofs.Growing.{has_hash, hash-is, groups_of-is}
-use Rattle.graph_text.proofs.OpenLine.{open_lines, IsCut, cut-lines, cut-feed, cut-byte, Cut, cut, hash-without_return}
+use Rattle.graph_text.proofs.OpenLine.{open_lines, IsCut, cut-lines, cut-feed, cut-byte, cut, hash-without_return}
 use Rattle.graph_text.proofs.Groups.{grouped, begins_at, last-push, front-push}
-use Rattle.graph_text.proofs.Places.{total, lines-parts, placed, numbered-push, length-numbered, complete-is, blocks-is, graph_in, placed-push, groups-parts}
+use Rattle.graph_text.proofs.BlockPlaces.{total, lines-parts, placed, numbered-push, length-numbered, complete-is, blocks-is, graph_in, placed-push, groups-parts}
 
 -- whether the line in progress begins a group behind these lines
 abbrev pub starts : List (List ℕ) → List ℕ → Bool

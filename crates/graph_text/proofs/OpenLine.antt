@@ -1,10 +1,10 @@
 -- A text is its lines that have ended, and the line in progress.
-use Rattle.std.specs.Prelude.{◌≡◌, ℕ, ◌+◌, ◌-◌, ◌≤◌, ◌==◌, List, [], ◌∷◌, ◌++◌, length, drop, reverse, map, count_by, Bool, true, false, not, ◌&&◌, ◌||◌, if◌then◌else◌, refl}
+use Rattle.std.specs.Prelude.{◌≡◌, ℕ, ◌+◌, ◌-◌, ◌==◌, List, [], ◌∷◌, ◌++◌, length, drop, map, count_by, Bool, true, false, not, if◌then◌else◌, refl}
 use Rattle.std.specs.List.{list_any, after_last, prefix_len, suffix_len}
 use Rattle.std.proofs.Common.{sym, ◌∙◌, ap, subst, arith, inl, inr}
 use Rattle.std.proofs.lemmas.Bool.{cond-true, cond-false, cond_both, or_parts, or_from, eqb-true, cases_Bool}
-use Rattle.std.proofs.lemmas.List.{append_assoc, append-nil, reverse-append, length_push, drop-append-le, map-append}
-use Rattle.std.proofs.lemmas.List.Sums.{sum_by_push, suffix_len-le-length}
+use Rattle.std.proofs.lemmas.List.{append_assoc, append-nil, reverse-append, length_push, drop-append-le}
+use Rattle.std.proofs.lemmas.List.Sums.{sum_by_push}
 use Rattle.std.proofs.lemmas.List.Folds.{list_any-append}
 use Rattle.std.proofs.Math.ListN.{drop_of_length-le}
 use Rattle.graph_text.specs.Lines.{spelled_lines, onto_first, without_return, lines_of, is_blank}

@@ -1,116 +1,52 @@
--- The numbers and the first lines of blocks.
-use Rattle.std.specs.Prelude.{◌≡◌, ℕ, suc, ◌+◌, ◌-◌, ◌≤◌, ◌<◌, ◌==◌, List, [], ◌∷◌, ◌++◌, length, take, drop, Bool, true, false, not, ◌&&◌, ◌||◌, if◌then◌else◌, refl}
-use Rattle.std.specs.List.{list_any, prefix_len}
-use Rattle.std.proofs.Common.{sym, ◌∙◌, ap, subst, arith, inl, inr, true≢false}
-use Rattle.std.proofs.lemmas.Bool.{cond-true, cond-false, cond_both, cases_Bool, and_parts, and_right, ne_eqb}
-use Rattle.std.proofs.lemmas.List.{append_assoc, append-nil, length_push, length-append, length-drop, take-append-le}
-use Rattle.std.proofs.lemmas.List.Folds.{prefix_len-append}
-use Rattle.std.proofs.lemmas.List.Sums.{prefix_len-le-length}
-use Rattle.graph_text.specs.Lines.{lines_of, is_blank_line, is_hash_line, is_content_line}
-use Rattle.graph_text.specs.Blocks.{TextBlock, groups, join_first, groups_of, all_but_last, graphs, is_graph, numbered, lead, complete, blocks}
-use Rattle.graph_text.specs.Progress.{last_group}
-use Rattle.graph_text.proofs.Growing.{past_blank, groups_of-is, lead-is}
-use Rattle.graph_text.proofs.Groups.{grouped, begins_at, front-push}
+-- The first place of an element in a list: through a map, and where a test decides equality.
+use Rattle.std.proofs.Common.{◌≡◌, ℕ, ◌+◌, ◌<◌, ◌≤◌, Bool, true, not, cond, ltb, ◌||◌, List, [], ◌∷◌, map, length, get_or, slice_get, position, Option, None, Some, Contains, refl, sym, ap, ◌∙◌, arith}
+use Rattle.std.specs.Bool.{Decides}
+use Rattle.std.specs.List.{list_any, position_or_len}
+use Rattle.std.specs.Option.{MatchOption, option_map}
+use Rattle.std.proofs.Common.{⊎_elim}
+use Rattle.std.proofs.lemmas.Bool.{true≢false, lt-ltb, cond-true, cases_lt}
+use Rattle.std.proofs.lemmas.List.Sums.{fails_before_first, passes_at_first}
+use Rattle.std.proofs.lemmas.List.{length-map}
+use Rattle.std.proofs.lemmas.List.Quantifiers.{position-Some}
+use Rattle.std.proofs.lemmas.Option.{none-some, slice_get-map, get_or_from_slice_get}
 
--- how many lines groups have
-abbrev pub total : List (List (List ℕ)) → ℕ
-total [] = 0
-total (group ∷ groups) = length group + total groups
+module _ {X Y : Type 0} (p : Y → Bool) (f : X → Y) where
+  pub list_any-map : (xs : List X) → list_any p (map f xs) ≡ list_any (λ x. p (f x)) xs
+  list_any-map [] = refl
+  list_any-map (x ∷ xs) = ap (λ b. p (f x) || b) (list_any-map xs)
 
-total-join : (line : List ℕ) (gs : List (List (List ℕ))) → total (join_first line gs) ≡ total gs + 1
-total-join line [] = omega arith
-total-join line (group ∷ gs) = omega arith
+  pub position_or_len-map : (xs : List X) → position_or_len p (map f xs) ≡ position_or_len (λ x. p (f x)) xs
+  position_or_len-map [] = refl
+  position_or_len-map (x ∷ xs) = ap (λ n. cond (not (p (f x))) (1 + n) 0) (position_or_len-map xs)
 
-total-groups : (filled : Bool) (lines : List (List ℕ)) → total (groups filled lines) ≡ length lines
-total-groups filled [] = refl
-total-groups filled (line ∷ lines) =
-    let begins = is_hash_line line && filled in
-    let later = groups (is_content_line line || (filled && not begins)) lines in
-    let here : total (join_first line later) ≡ length (line ∷ lines) = omega (arith, total-join line later, total-groups (is_content_line line || (filled && not begins)) lines) in
-    cond_both begins ([] ∷ join_first line later) (join_first line later) (λ gs. total gs ≡ length (line ∷ lines)) (λ starts. omega (arith, here)) (λ goes_on. here)
+  pub position-map : (xs : List X) → position p (map f xs) ≡ position (λ x. p (f x)) xs
+  position-map xs =
+      ap (λ n. cond (ltb n (length (map f xs))) (Some n) None) (position_or_len-map xs)
+      ∙ ap (λ n. cond (ltb (position_or_len (λ x. p (f x)) xs) n) (Some (position_or_len (λ x. p (f x)) xs)) None) (length-map xs f)
 
-total-parts : (gs : List (List (List ℕ))) → total (all_but_last gs) + length (last_group gs) ≡ total gs
-total-parts [] = refl
-total-parts (group ∷ []) = omega arith
-total-parts (group ∷ next ∷ rest) = omega (arith, total-parts (next ∷ rest))
+-- an element of a list, read through a map
+pub get_or-map_read : {X Y : Type 0} (f : X → Y) (xs : List X) (i : ℕ) (x : X) (d : Y) → slice_get xs i ≡ Some x → get_or (map f xs) i d ≡ f x
+get_or-map_read f xs i x d h = get_or_from_slice_get (map f xs) i (f x) d (slice_get-map f xs i ∙ ap (option_map f) h)
 
--- all lines are the blank ones at the beginning, those of all groups but the last, and those of the last
-pub lines-parts : (lines : List (List ℕ)) → prefix_len is_blank_line lines + total (all_but_last (grouped lines)) + length (last_group (grouped lines)) ≡ length lines
-lines-parts lines =
-    let n = prefix_len is_blank_line lines in
-    omega (arith, total-parts (grouped lines), total-groups false (drop n lines), length-drop n lines, prefix_len-le-length is_blank_line lines)
+-- the first place is not after a place that passes
+pub position_or_len-le : {X : Type 0} (p : X → Bool) (xs : List X) (k : ℕ) (d : X) → p (get_or xs k d) ≡ true → position_or_len p xs ≤ k
+position_or_len-le p xs k d passes =
+    ⊎_elim (λ before. absurd (true≢false (sym passes ∙ fails_before_first p xs k d before))) (λ h. h) (cases_lt k (position_or_len p xs))
 
--- one group more is numbered behind the others
-pub numbered-push : (index line : ℕ) (gs : List (List (List ℕ))) (group : List (List ℕ)) →
-    numbered index line (gs ++ group ∷ []) ≡ numbered index line gs ++ record { index = index + length gs; line = line + total gs; lines = group } ∷ []
-numbered-push index line [] group =
-    let same : index + 0 ≡ index = omega arith in
-    let place : line + 0 ≡ line = omega arith in
-    rw (same, place) refl
-numbered-push index line (g ∷ gs) group =
-    let same : index + 1 + length gs ≡ index + suc (length gs) = omega arith in
-    let place : line + length g + total gs ≡ line + (length g + total gs) = omega arith in
-    ap (λ l. record { index = index; line = line; lines = g } ∷ l) (numbered-push (index + 1) (line + length g) gs group
-    ∙ ap (λ n. numbered (index + 1) (line + length g) gs ++ record { index = n; line = line + length g + total gs; lines = group } ∷ []) same
-    ∙ ap (λ n. numbered (index + 1) (line + length g) gs ++ record { index = index + suc (length gs); line = n; lines = group } ∷ []) place)
+module _ {X : Type 0} {e : X → X → Bool} (same : (a b : X) → Decides (e a b) (a ≡ b)) where
+  -- the first place of an element that the list has
+  pub place_of_contained : (xs : List X) (x d : X) → Contains xs x
+      → (position_or_len (e x) xs < length xs) × (get_or xs (position_or_len (e x) xs) d ≡ x)
+  place_of_contained xs x d (k, within, is) =
+      let here : e x (get_or xs k x) ≡ true = (same x (get_or xs k x)).1 (sym is) in
+      let low : position_or_len (e x) xs ≤ k = position_or_len-le (e x) xs k x here in
+      let inside : position_or_len (e x) xs < length xs = omega arith in
+      (inside, sym ((same x (get_or xs (position_or_len (e x) xs) d)).0 (passes_at_first (e x) xs d inside)))
 
-pub length-numbered : (index line : ℕ) (gs : List (List (List ℕ))) → length (numbered index line gs) ≡ length gs
-length-numbered index line [] = refl
-length-numbered index line (g ∷ gs) = ap suc (length-numbered (index + 1) (line + length g) gs)
-
--- groups as blocks, in an input with these lines
-abbrev pub placed : List (List ℕ) → List (List (List ℕ)) → List TextBlock
-placed lines gs = numbered 1 (prefix_len is_blank_line lines + 1) gs
-
-pub complete-is : (bytes : List ℕ) → complete bytes ≡ placed (lines_of bytes) (all_but_last (grouped (lines_of bytes)))
-complete-is bytes =
-    ap (λ n. numbered 1 (n + 1) (all_but_last (groups_of bytes))) (lead-is bytes)
-    ∙ ap (λ gs. placed (lines_of bytes) (all_but_last gs)) (groups_of-is bytes)
-
--- the blocks are the complete ones and the last group, if that is a graph
-abbrev pub graph_in : List (List ℕ) → List (List (List ℕ))
-graph_in group = if is_graph group then group ∷ [] else []
-
-graphs-parts : (gs : List (List (List ℕ))) → graphs gs ≡ all_but_last gs ++ graph_in (last_group gs)
-graphs-parts [] = refl
-graphs-parts (group ∷ []) = refl
-graphs-parts (group ∷ next ∷ rest) = ap (λ gs. group ∷ gs) (graphs-parts (next ∷ rest))
-
-pub blocks-is : (bytes : List ℕ) → blocks bytes ≡ placed (lines_of bytes) (all_but_last (grouped (lines_of bytes)) ++ graph_in (last_group (grouped (lines_of bytes))))
-blocks-is bytes =
-    ap (λ n. numbered 1 (n + 1) (graphs (groups_of bytes))) (lead-is bytes)
-    ∙ ap (λ gs. placed (lines_of bytes) (graphs gs)) (groups_of-is bytes)
-    ∙ ap (placed (lines_of bytes)) (graphs-parts (grouped (lines_of bytes)))
-
--- a line more leaves the place of the first line that is not blank
-lead-push : (lines more : List (List ℕ)) → prefix_len is_blank_line lines < length lines → prefix_len is_blank_line (lines ++ more) ≡ prefix_len is_blank_line lines
-lead-push lines more h =
-    prefix_len-append is_blank_line lines more ∙ cond-false _ _ _ (ne_eqb (prefix_len is_blank_line lines) (length lines) (λ e. omega (arith, e, h)))
-
-placed-none : (lines more : List (List ℕ)) → past_blank lines ≡ [] → (gs : List (List (List ℕ))) → gs ≡ [] → placed (lines ++ more) gs ≡ placed lines gs
-placed-none lines more h gs e = ap (placed (lines ++ more)) e ∙ ap (placed lines) (sym e)
-
-same_if : {X : Type 0} (b : Bool) (x y z : X) → x ≡ z → y ≡ z → (if b then x else y) ≡ z
-same_if true x y z p q = p
-same_if false x y z p q = q
-
-placed-more : (lines more : List (List ℕ)) (b : Bool) (rest : List (List ℕ)) → past_blank lines ≡ rest →
-    placed (lines ++ more) (if b then grouped lines else all_but_last (grouped lines)) ≡ placed lines (if b then grouped lines else all_but_last (grouped lines))
-placed-more lines more b [] h =
-    placed-none lines more h _ (same_if b (grouped lines) (all_but_last (grouped lines)) [] (ap (groups false) h) (ap (λ l. all_but_last (groups false l)) h))
-placed-more lines more b (line ∷ rest) h =
-    let some : length (past_blank lines) ≡ suc (length rest) = ap length h in
-    let within : prefix_len is_blank_line lines < length lines = omega (arith, some, length-drop (prefix_len is_blank_line lines) lines) in
-    ap (λ n. numbered 1 (n + 1) (if b then grouped lines else all_but_last (grouped lines))) (lead-push lines more within)
-
--- the complete blocks of an input with one line more
-pub placed-push : (lines : List (List ℕ)) (line : List ℕ) →
-    placed (lines ++ line ∷ []) (all_but_last (grouped (lines ++ line ∷ []))) ≡ placed lines (if begins_at lines line then grouped lines else all_but_last (grouped lines))
-placed-push lines line =
-    ap (placed (lines ++ line ∷ [])) (front-push lines line) ∙ placed-more lines (line ∷ []) (begins_at lines line) (past_blank lines) refl
-
--- groups are those before the last one, and the last one
-pub groups-parts : (gs : List (List (List ℕ))) → 0 < length (last_group gs) → gs ≡ all_but_last gs ++ last_group gs ∷ []
-groups-parts [] h = absurd (omega (arith, h))
-groups-parts (group ∷ []) h = refl
-groups-parts (group ∷ next ∷ rest) h = ap (λ gs. group ∷ gs) (groups-parts (next ∷ rest) h)
+  -- what the first place says where it is asked for
+  pub position-Decides : (xs : List X) (x d : X) (r : Option ℕ) → r ≡ position (e x) xs
+      → MatchOption r (¬ Contains xs x) (λ i. (i < length xs) × (get_or xs i d ≡ x))
+  position-Decides xs x d None is =
+      λ there. none-some _ (is ∙ cond-true _ _ _ (lt-ltb _ _ (place_of_contained xs x d there).0))
+  position-Decides xs x d (Some i) is =
+      let found = position-Some (e x) xs i d (sym is) in (found.0, sym ((same x (get_or xs i d)).0 found.1))

@@ -1,12 +1,13 @@
 -- How what a text leaves, and its complete blocks, change byte by byte.
-use Rattle.std.specs.Prelude.{◌≡◌, ℕ, suc, ◌+◌, ◌-◌, ◌<◌, ◌≤◌, ◌==◌, List, [], ◌∷◌, ◌++◌, length, take, drop, map, filter, Bool, true, false, not, ◌&&◌, ◌||◌, if◌then◌else◌, All, slice_index_or, zero, refl}
-use Rattle.std.specs.List.{list_all, list_any, enumerate_from}
+use Rattle.std.specs.Prelude.{◌≡◌, ℕ, suc, ◌+◌, ◌<◌, ◌≤◌, ◌==◌, List, [], ◌∷◌, ◌++◌, length, take, drop, filter, Bool, true, false, not, ◌&&◌, ◌||◌, if◌then◌else◌, All, slice_index_or, zero, refl}
+use Rattle.std.specs.List.{list_all, list_any}
 use Rattle.std.proofs.Common.{sym, ◌∙◌, ap, subst, arith, inl, inr, true≢false}
 use Rattle.std.proofs.lemmas.Bool.{cond-true, cond-false, cond_both, cases_Bool, and_parts, and_right, and_from, or_parts, or_from, eqb-true, false_from_ne_true, both_ways}
 use Rattle.std.proofs.lemmas.List.{append-nil, append_assoc, length_push, length-append, take-append-drop, take-take, nil_from_length}
 use Rattle.std.proofs.lemmas.List.Folds.{list_any-append}
+use Rattle.std.proofs.lemmas.List.Sums.{sum_by-append, count_by-le-length}
 use Rattle.graph_text.specs.Lines.{without_return, is_blank, is_blank_line, is_hash_line, is_content_line, is_run_line, fields_of, are_no_fields, are_run_fields}
-use Rattle.graph_text.specs.Blocks.{TextBlock, complete, blocks, is_graph}
+use Rattle.graph_text.specs.Blocks.{complete, blocks, is_graph}
 use Rattle.graph_text.specs.Progress.{Progress, is_feed, left_by, triggers, with_line, after_byte, block_in, completed, last_block}
 use Rattle.graph_text.specs.Reading.{Line, line_at, numbered_lines, filled_lines, run_lines}
 use Rattle.graph_text.specs.Draft.{is_content}
@@ -48,10 +49,10 @@ hash-first b span h = ap (λ c. has_hash (c ∷ span)) (eqb-true b 35 h)
 -- the first byte of quiet ones completes no block
 quiet-first : (p : Progress) (b : ℕ) (span : List ℕ) → IsQuiet p (b ∷ span) → triggers p b ≡ false
 quiet-first p b span h = false_from_ne_true (triggers p b) (λ t.
-  let first = and_parts (b == 35) (list_all is_blank p.open_line && list_any is_content_line p.ended) t in
-  let rest = and_parts (list_all is_blank p.open_line) (list_any is_content_line p.ended) first.1 in
-  both_ways (list_any is_content_line p.ended && has_hash (p.open_line ++ b ∷ span)) h.hash
-  (and_from (list_any is_content_line p.ended) (has_hash (p.open_line ++ b ∷ span)) rest.1 (hash-blanks p.open_line (b ∷ span) rest.0 ∙ hash-first b span first.0)))
+    let first = and_parts (b == 35) (list_all is_blank p.open_line && list_any is_content_line p.ended) t in
+    let rest = and_parts (list_all is_blank p.open_line) (list_any is_content_line p.ended) first.1 in
+    both_ways (list_any is_content_line p.ended && has_hash (p.open_line ++ b ∷ span)) h.hash
+    (and_from (list_any is_content_line p.ended) (has_hash (p.open_line ++ b ∷ span)) rest.1 (hash-blanks p.open_line (b ∷ span) rest.0 ∙ hash-first b span first.0)))
 
 quiet-rest : (p : Progress) (b : ℕ) (span : List ℕ) → IsQuiet p (b ∷ span) → IsQuiet (quiet_after p b) span
 quiet-rest p b span h = record {
@@ -203,6 +204,11 @@ feeds-blank (b ∷ span) h =
 pub IsQuiet-blank : (p : Progress) (span : List ℕ) → IsLeft p → list_all is_blank span ≡ true → IsQuiet p span
 IsQuiet-blank p span left blank =
     IsQuiet-hashless p span left (ap has_hash (sym (append-nil span)) ∙ hash-blanks span [] blank) (feeds-blank span blank)
+
+-- the number of the line in progress grows by one a byte at most
+pub line-grows : (bytes piece : List ℕ) → (left_by (bytes ++ piece)).line ≤ (left_by bytes).line + length piece
+line-grows bytes piece =
+    omega (arith, sum_by-append (λ b. if is_feed b then 1 else 0) bytes piece, count_by-le-length is_feed piece)
 
 -- where no byte up to a place completes a block, none up to an earlier one does
 pub complete-earlier : (bytes piece : List ℕ) (m n : ℕ) → m ≤ n → complete (bytes ++ take n piece) ≡ complete bytes → complete (bytes ++ take m piece) ≡ complete bytes

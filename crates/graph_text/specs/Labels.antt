@@ -1,5 +1,5 @@
 -- Labels: the names of the vertices of a graph, and its edges.
-use Rattle.std.specs.Prelude.{ℕ, ◌<◌, ◌==◌, List, [], ◌∷◌, length, Bool, not, ◌&&◌, ◌||◌, slice_index_or, All, IsTrue}
+use Rattle.std.specs.Prelude.{ℕ, ◌<◌, ◌==◌, List, [], ◌∷◌, ◌++◌, length, Bool, not, ◌&&◌, ◌||◌, if◌then◌else◌, slice_index_or, All, IsTrue}
 use Rattle.std.specs.List.{list_any, IsDistinct}
 use Rattle.std.specs.Str.{bytes_eq}
 use Rattle.decomposition.specs.Graph.{same_ends}
@@ -24,6 +24,10 @@ tail_at labels e = (slice_index_or labels.edges e (0, 0)).0
 
 abbrev pub head_at : LabelLists → ℕ → ℕ
 head_at labels e = (slice_index_or labels.edges e (0, 0)).1
+
+-- the names with one more at their end, unless it is among them
+abbrev pub with_name : List (List ℕ) → List ℕ → List (List ℕ)
+with_name names name = if list_any (bytes_eq name) names then names else names ++ name ∷ []
 
 -- whether the bytes are a field: one byte or more, none of them a blank or a line feed
 abbrev pub is_field : List ℕ → Bool

@@ -1,0 +1,7 @@
+use Rattle.std.proofs.Common.{slice_index}
+use Rattle.decomposition.specs.Graph.{tail, head}
+use Rattle.dag_net.proofs.AddingUp.{AddsUp}
+use Rattle.dag_net.proofs.balance.sum_flow.Given as goal
+
+abbrev pub invariant-loop-e : goal.invariant-loop-e
+invariant-loop-e l = AddsUp 1000000000000 (head l.net) (slice_index l.flow) l.net.vertices l.e l.into.items × AddsUp 1000000000000 (tail l.net) (slice_index l.flow) l.net.vertices l.e l.out.items

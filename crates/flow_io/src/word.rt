@@ -1,0 +1,30 @@
+//! A text.
+ghost use Rattle.std.specs.Prelude.{◌≡◌, List, ℕ, string_bytes};
+
+use std::marker::Model;
+
+/// A text, seen as the list of its bytes.
+#[derive(Debug, Drop)]
+pub struct Word {
+    text: String,
+}
+
+impl Model for Word {
+    ghost Value = { List ℕ };
+
+    ghost view = { λ word. string_bytes word.text };
+}
+
+impl Word {
+    pub fn from_string(text: String) -> Word
+        ensures { result ≡ string_bytes text }
+    {
+        Word { text }
+    }
+
+    pub fn as_str(&self) -> &str
+        ensures { result.now ≡ self.now }
+    {
+        self.text.as_str()
+    }
+}

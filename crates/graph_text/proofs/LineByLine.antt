@@ -1,0 +1,127 @@
+-- How the parts of a block change by one more line.
+use Rattle.std.proofs.Common.{◌≡◌, ℕ, ◌+◌, ◌-◌, ◌<◌, ◌≤◌, ◌==◌, ◌∷◌, ◌++◌, [], List, length, take, drop, Bool, true, false, not, ◌&&◌, ◌||◌, cond, ltb, eqb, Option, Some, None, refl, sym, ap, subst, ◌∙◌, map, filter, arith, ⊎_elim}
+use Rattle.std.specs.Prelude.{flat_map}
+use Rattle.std.specs.List.{All, list_any, list_all}
+use Rattle.std.proofs.lemmas.Bool.{cond-true, cond-false, cases_Bool, ne_eqb}
+use Rattle.std.proofs.lemmas.List.{append-nil, map-append, drop_at, length_push, take-append-le, drop-append-le}
+use Rattle.std.proofs.lemmas.List.Elements.{All-filter, All-take, All-drop, All-append, All-tail, filter-append}
+use Rattle.decomposition.specs.declared.Mode.{Mode}
+use Rattle.graph_text.specs.declared.refusal.Why.{Why}
+use Rattle.graph_text.specs.declared.refusal.Why.TheVariants.{LongLine, BadCount, BadFields, BadWeight, BadRange, RepeatedEdge, TooManyEdges}
+use Rattle.graph_text.specs.declared.refusal.Refusal.{Refusal}
+use Rattle.graph_text.specs.Lines.{are_no_fields, are_hash_fields, are_run_fields}
+use Rattle.graph_text.specs.ShownLine.{IsBlank, IsHash, IsContent}
+use Rattle.graph_text.specs.Reading.{Line, most_bytes, most_edges, filled_lines, content_lines, run_lines, count_lines, edge_lines, last_filled, long_lines, bad_fields, bad_weights, bad_ranges, repeats, is_count, is_weight, weights_of, last_fields, range_of, same_fields, ends_of, refused, earliest, or_else}
+use Rattle.graph_text.specs.Draft.{is_content, settled_refusals}
+use Rattle.graph_text.proofs.Earliest.{Grows, Grows-append, Grows-merge, Grows-at, Grows-kind, Grows-same, Grows-repeats, refusal_if}
+
+-- a filter of one more element, which passes or fails
+filter_pass : {X : Type 0} (p : X → Bool) (xs : List X) (x : X) → p x ≡ true → filter p (xs ++ x ∷ []) ≡ filter p xs ++ x ∷ []
+filter_pass p xs x e = filter-append p xs (x ∷ []) ∙ ap (λ ys. filter p xs ++ ys) (cond-true (p x) (x ∷ []) [] e)
+
+filter_fail : {X : Type 0} (p : X → Bool) (xs : List X) (x : X) → p x ≡ false → filter p (xs ++ x ∷ []) ≡ filter p xs
+filter_fail p xs x e =
+    filter-append p xs (x ∷ [])
+    ∙ ap (λ ys. filter p xs ++ ys) (cond-false (p x) (x ∷ []) [] e)
+    ∙ append-nil (filter p xs)
+
+pub filled-blank : (lines : List Line) (l : Line) → IsBlank l → filled_lines (lines ++ l ∷ []) ≡ filled_lines lines
+filled-blank lines l b = filter_fail (λ l. not (are_no_fields l.fields)) lines l (ap not b.none)
+
+pub filled-some : (lines : List Line) (l : Line) → are_no_fields l.fields ≡ false → filled_lines (lines ++ l ∷ []) ≡ filled_lines lines ++ l ∷ []
+filled-some lines l e = filter_pass (λ l. not (are_no_fields l.fields)) lines l (ap not e)
+
+pub content-blank : (lines : List Line) (l : Line) → IsBlank l → content_lines (lines ++ l ∷ []) ≡ content_lines lines
+content-blank lines l b = ap (filter (λ l. not (are_hash_fields l.fields))) (filled-blank lines l b)
+
+pub content-hash : (lines : List Line) (l : Line) → IsHash l → content_lines (lines ++ l ∷ []) ≡ content_lines lines
+content-hash lines l h =
+    ap (filter (λ l. not (are_hash_fields l.fields))) (filled-some lines l h.some)
+    ∙ filter_fail (λ l. not (are_hash_fields l.fields)) (filled_lines lines) l (ap not h.hash)
+
+pub content-more : (lines : List Line) (l : Line) → IsContent l → content_lines (lines ++ l ∷ []) ≡ content_lines lines ++ l ∷ []
+content-more lines l h =
+    ap (filter (λ l. not (are_hash_fields l.fields))) (filled-some lines l h.some)
+    ∙ filter_pass (λ l. not (are_hash_fields l.fields)) (filled_lines lines) l (ap not h.no_hash)
+
+-- the content lines pass the test of one
+both-any : {X : Type 0} (p q : X → Bool) (xs : List X) → list_any (λ x. p x && q x) xs ≡ not (length (filter q (filter p xs)) == 0)
+both-any p q [] = refl
+both-any p q (x ∷ xs) =
+    ⊎_elim
+    (λ (first : p x ≡ true).
+    ⊎_elim
+    (λ (second : q x ≡ true).
+    rw (first, second) (sym (ap not (ne_eqb (length (x ∷ filter q (filter p xs))) 0 (λ e. omega arith)))))
+    (λ (second : q x ≡ false). rw (first, second) (both-any p q xs))
+    (cases_Bool (q x)))
+    (λ (first : p x ≡ false). rw first (both-any p q xs))
+    (cases_Bool (p x))
+
+pub content-any : (lines : List Line) → list_any is_content lines ≡ not (length (content_lines lines) == 0)
+content-any lines =
+    both-any (λ (l : Line). not (are_no_fields l.fields)) (λ l. not (are_hash_fields l.fields)) lines
+
+-- the last line that is not blank
+pub last-more : (lines : List Line) (l : Line) → are_no_fields l.fields ≡ false → last_filled (lines ++ l ∷ []) ≡ l ∷ []
+last-more lines l e =
+    ap (λ f. drop (length f - 1) f) (filled-some lines l e)
+    ∙ drop_at (filled_lines lines) (l ∷ []) (length (filled_lines lines ++ l ∷ []) - 1) (omega (arith, length_push (filled_lines lines) l))
+
+pub last-blank : (lines : List Line) (l : Line) → IsBlank l → last_filled (lines ++ l ∷ []) ≡ last_filled lines
+last-blank lines l b = ap (λ f. drop (length f - 1) f) (filled-blank lines l b)
+
+-- the first `#S` line
+pub runs-other : (lines : List Line) (l : Line) → are_run_fields l.fields ≡ false → run_lines (lines ++ l ∷ []) ≡ run_lines lines
+runs-other lines l e = filter_fail (λ l. are_run_fields l.fields) lines l e
+
+pub runs-more : (lines : List Line) (l : Line) → are_run_fields l.fields ≡ true → run_lines (lines ++ l ∷ []) ≡ run_lines lines ++ l ∷ []
+runs-more lines l e = filter_pass (λ l. are_run_fields l.fields) lines l e
+
+-- the count line, and the edge lines
+pub count-first : (lines : List Line) (l : Line) → IsContent l → content_lines lines ≡ [] → (count_lines (lines ++ l ∷ []) ≡ l ∷ []) × (edge_lines (lines ++ l ∷ []) ≡ [])
+count-first lines l h e =
+    let more : content_lines (lines ++ l ∷ []) ≡ l ∷ [] = content-more lines l h ∙ ap (λ c. c ++ l ∷ []) e in
+    (ap (take 1) more, ap (drop 1) more)
+
+pub edge-more : (lines : List Line) (l : Line) → IsContent l → 0 < length (content_lines lines) → (count_lines (lines ++ l ∷ []) ≡ count_lines lines) × (edge_lines (lines ++ l ∷ []) ≡ edge_lines lines ++ l ∷ [])
+edge-more lines l h e =
+    let more = content-more lines l h in
+    (ap (take 1) more ∙ take-append-le 1 (content_lines lines) (l ∷ []) (omega arith),
+    ap (drop 1) more ∙ drop-append-le 1 (content_lines lines) (l ∷ []) (omega arith))
+
+-- what the refusals grow by, kind by kind
+pub record GrowsBy (line : ℕ) (mode : Mode) (lines lines' : List Line) (long count fields weight range repeat many : Option Refusal) : Type 0 where
+  pub long_grows : Grows line (earliest (refused LongLine (long_lines lines))) (earliest (refused LongLine (long_lines lines'))) long
+  pub count_grows : Grows line (earliest (refused BadCount (filter (λ l. not (is_count l.fields)) (count_lines lines)))) (earliest (refused BadCount (filter (λ l. not (is_count l.fields)) (count_lines lines')))) count
+  pub fields_grow : Grows line (earliest (refused BadFields (bad_fields mode lines))) (earliest (refused BadFields (bad_fields mode lines'))) fields
+  pub weights_grow : Grows line (earliest (refused BadWeight (bad_weights mode lines))) (earliest (refused BadWeight (bad_weights mode lines'))) weight
+  pub ranges_grow : Grows line (earliest (refused BadRange (bad_ranges mode lines))) (earliest (refused BadRange (bad_ranges mode lines'))) range
+  pub repeats_grow : Grows line (earliest (refused RepeatedEdge (repeats (edge_lines lines)))) (earliest (refused RepeatedEdge (repeats (edge_lines lines')))) repeat
+  pub many_grow : Grows line (earliest (refused TooManyEdges (take 1 (drop most_edges (edge_lines lines))))) (earliest (refused TooManyEdges (take 1 (drop most_edges (edge_lines lines'))))) many
+
+pub Grows-all : (line : ℕ) (mode : Mode) (lines lines' : List Line) (m n o p q r s : Option Refusal) → GrowsBy line mode lines lines' m n o p q r s → Grows line (earliest (settled_refusals mode lines)) (earliest (settled_refusals mode lines')) (or_else (or_else (or_else (or_else (or_else (or_else m n) o) p) q) r) s)
+Grows-all line mode lines lines' m n o p q r s g =
+    let long = λ (x : List Line). refused LongLine (long_lines x) in
+    let count = λ (x : List Line). refused BadCount (filter (λ l. not (is_count l.fields)) (count_lines x)) in
+    let fields = λ (x : List Line). refused BadFields (bad_fields mode x) in
+    let weight = λ (x : List Line). refused BadWeight (bad_weights mode x) in
+    let range = λ (x : List Line). refused BadRange (bad_ranges mode x) in
+    let repeat = λ (x : List Line). refused RepeatedEdge (repeats (edge_lines x)) in
+    let many = λ (x : List Line). refused TooManyEdges (take 1 (drop most_edges (edge_lines x))) in
+    let two = λ (x : List Line). long x ++ count x in
+    let three = λ (x : List Line). two x ++ fields x in
+    let four = λ (x : List Line). three x ++ weight x in
+    let five = λ (x : List Line). four x ++ range x in
+    let six = λ (x : List Line). five x ++ repeat x in
+    Grows-append line (six lines) (many lines) (six lines') (many lines') (or_else (or_else (or_else (or_else (or_else m n) o) p) q) r) s
+    (Grows-append line (five lines) (repeat lines) (five lines') (repeat lines') (or_else (or_else (or_else (or_else m n) o) p) q) r
+    (Grows-append line (four lines) (range lines) (four lines') (range lines') (or_else (or_else (or_else m n) o) p) q
+    (Grows-append line (three lines) (weight lines) (three lines') (weight lines') (or_else (or_else m n) o) p
+    (Grows-append line (two lines) (fields lines) (two lines') (fields lines') (or_else m n) o
+    (Grows-append line (long lines) (count lines) (long lines') (count lines') m n g.long_grows g.count_grows)
+    g.fields_grow)
+    g.weights_grow)
+    g.ranges_grow)
+    g.repeats_grow)
+    g.many_grow

@@ -1,0 +1,16 @@
+-- What the blocks of a text are read as, and long texts for examples.
+use Rattle.std.specs.Prelude.{ℕ, List, [], ◌++◌, map, Result, flat_map, replicate, codes, decimal}
+use Rattle.std.specs.List.{enumerate_from}
+use Rattle.decomposition.specs.declared.Mode.{Mode}
+use Rattle.graph_text.specs.declared.refusal.Refusal.{Refusal}
+use Rattle.graph_text.specs.declared.block.RawGraph.{RawGraph}
+use Rattle.graph_text.specs.Blocks.{blocks}
+use Rattle.graph_text.specs.Reading.{read}
+
+-- what each block of a text is read as
+abbrev pub reads : Mode → List ℕ → List (Result RawGraph Refusal)
+reads mode text = map (read mode) (blocks text)
+
+-- so many edge lines, from one vertex to others
+abbrev pub edge_lines : ℕ → List ℕ
+edge_lines n = flat_map (λ p. codes "s v" ++ decimal p.0 ++ codes " 0\n") (enumerate_from {X = List ℕ} 1 (replicate n []))

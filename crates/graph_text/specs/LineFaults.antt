@@ -1,0 +1,53 @@
+-- What is wrong with a line: a `#` line, a count line or an edge line.
+use Rattle.std.specs.Prelude.{ℕ, ◌+◌, ◌-◌, ◌==◌, List, length, drop, Bool, not, nat_lt, if◌then◌else◌, Option, Some, None}
+use Rattle.std.specs.List.{list_any, list_all}
+use Rattle.decomposition.specs.declared.Mode.{Mode}
+use Rattle.decomposition.specs.declared.Range.{Range}
+use Rattle.graph_text.specs.declared.refusal.Why.{Why}
+use Rattle.graph_text.specs.declared.refusal.Why.TheVariants.{LongLine, BadCount, BadFields, BadWeight, BadRange, RepeatedEdge, TooManyEdges}
+use Rattle.graph_text.specs.declared.refusal.Refusal.{Refusal}
+use Rattle.graph_text.specs.Reading.{Line, most_bytes, most_edges, is_count, is_weight, weights_of, range_in, same_fields, ends_of}
+
+-- the weights among the fields of an edge line
+abbrev pub weights_in : Mode → List (List ℕ) → List (List ℕ)
+weights_in mode fields = drop (length fields - weights_of mode) fields
+
+-- what is wrong with the fields of an edge line, taken for themselves
+abbrev pub fault_of_fields : Mode → List (List ℕ) → Option Why
+fault_of_fields mode fields =
+    let range = range_in (weights_in mode fields) in
+    if not (length fields == 2 + weights_of mode) then Some BadFields
+    else (if not (list_all is_weight (weights_in mode fields)) then Some BadWeight
+    else (if nat_lt range.hi range.lo then Some BadRange else None))
+
+-- what is wrong with an edge line after others
+abbrev pub fault_among : List Line → Line → Option Why
+fault_among edges line =
+    if list_any (λ e. same_fields (ends_of e) (ends_of line)) edges then Some RepeatedEdge
+    else (if length edges == most_edges then Some TooManyEdges else None)
+
+-- the first fault that there is
+abbrev pub or_fault : Option Why → Option Why → Option Why
+or_fault None other = other
+or_fault (Some why) other = Some why
+
+-- what is wrong with an edge line: for itself, or after others
+abbrev pub fault_of_edge : Mode → List Line → Line → Option Why
+fault_of_edge mode edges line =
+    if nat_lt most_bytes line.bytes then Some LongLine
+    else or_fault (fault_of_fields mode line.fields) (fault_among edges line)
+
+-- what is wrong with a `#` line
+abbrev pub fault_of_hash : Line → Option Why
+fault_of_hash line = if nat_lt most_bytes line.bytes then Some LongLine else None
+
+-- what is wrong with a count line
+abbrev pub fault_of_count : Line → Option Why
+fault_of_count line =
+    if nat_lt most_bytes line.bytes then Some LongLine
+    else (if not (is_count line.fields) then Some BadCount else None)
+
+-- a fault of a line of this number
+abbrev pub refusal_at : ℕ → Option Why → Option Refusal
+refusal_at number None = None
+refusal_at number (Some why) = Some (record { line = number; why = why })

@@ -1,0 +1,62 @@
+//! The definitions at worked examples, which the check computes.
+ghost use Rattle.std.specs.Prelude.{◌≡◌, ◌++◌, codes, [], ◌∷◌, List, Ok, Err, map, replicate};
+ghost use Rattle.decomposition.specs.Graph.{graph_of};
+ghost use Rattle.decomposition.specs.declared.Mode.TheVariants.{Exact, Interval};
+ghost use Rattle.graph_text.specs.Lines.{lines_of, fields_of};
+ghost use Rattle.graph_text.specs.Blocks.{blocks, complete, name_of};
+ghost use Rattle.graph_text.specs.Progress.{left_by};
+ghost use Rattle.graph_text.specs.declared.refusal.Why.TheVariants.{Later, LongLine, BadCount, BadFields, BadWeight, BadRange, RepeatedEdge, TooManyEdges, Cycle, Unconserved};
+ghost use Rattle.graph_text.specs.Examples.{reads, edge_lines};
+
+/// Lines end with a line feed or with the text, and a `#` line after a content line begins a block.
+pub fn texts_are_cut()
+    ensures lines { lines_of (codes "# one\n2\r\ns t 5") ≡ codes "# one" ∷ codes "2" ∷ codes "s t 5" ∷ [] }
+    ensures fields { fields_of (codes "  s  t 5 ") ≡ codes "s" ∷ codes "t" ∷ codes "5" ∷ [] }
+    ensures no_fields { fields_of (codes " \t ") ≡ [] }
+    ensures smallest { blocks (codes "# one\n2\ns t 5\n") ≡ record { index = 1; line = 1; lines = codes "# one" ∷ codes "2" ∷ codes "s t 5" ∷ [] } ∷ [] }
+    ensures headless { blocks (codes "\n \n2") ≡ record { index = 1; line = 3; lines = codes "2" ∷ [] } ∷ [] }
+    ensures empty { blocks [] ≡ [] }
+    ensures comment { blocks (codes "# only a comment\n") ≡ [] }
+    ensures several { blocks (codes "# a\n2\ns t 1\n# b\n2\ns t\n# c\n2\ns t 3\n# bye\n")
+        ≡ record { index = 1; line = 1; lines = codes "# a" ∷ codes "2" ∷ codes "s t 1" ∷ [] }
+        ∷ record { index = 2; line = 4; lines = codes "# b" ∷ codes "2" ∷ codes "s t" ∷ [] }
+        ∷ record { index = 3; line = 7; lines = codes "# c" ∷ codes "2" ∷ codes "s t 3" ∷ [] } ∷ [] }
+    ensures complete_ones { complete (codes "# a\n2\ns t 1\n# b\n2\ns t\n# c\n2\ns t 3\n #")
+        ≡ blocks (codes "# a\n2\ns t 1\n# b\n2\ns t\n# c\n2\ns t 3\n # bye") }
+    ensures none_complete { complete (codes "# a\n2\ns t 1\n \t") ≡ [] }
+    ensures names { map name_of (blocks (codes "# a \n2\ns t 1\n #\tb c\n2\n")) ≡ codes "a" ∷ codes "b c" ∷ [] }
+    ensures begun { left_by (codes "# a\n2\ns t 1\n #") ≡ record { blocks = 1; line = 4; open_line = codes " #"; ended = [] } }
+    ensures goes_on { left_by (codes "\n# a\r\n2\ns #") ≡ record { blocks = 0; line = 4; open_line = codes "s #"; ended = codes "# a" ∷ codes "2" ∷ [] } }
+{}
+
+/// Blocks are read as graphs, or refused with a line.
+pub fn blocks_are_read()
+    ensures smallest { reads Exact (codes "# one\n2\ns t 5\n")
+        ≡ Ok (record {
+          labels = record { names = codes "s" ∷ codes "t" ∷ []; edges = (0, 1) ∷ [] };
+          net = graph_of 2 ((0, 1) ∷ []);
+          ranges = record { lo = 5; hi = 5 } ∷ [];
+          runs = [];
+        }) ∷ [] }
+    ensures no_edges { reads Exact (codes "# e\n0\n")
+        ≡ Ok (record { labels = record { names = []; edges = [] }; net = graph_of 0 []; ranges = []; runs = [] }) ∷ [] }
+    ensures zeros { reads Exact (codes "2\ns t 007\n") ≡ reads Exact (codes "2\ns t 7\n") }
+    ensures point { reads Exact (codes "# n\r\n\r\n99\r\ns t 10.0") ≡ reads Exact (codes "# n\n99\ns t 10\n") }
+    ensures unbalanced { reads Exact (codes "# x\n3\ns a 3\na t 5\n") ≡ Err (record { line = 3; why = Unconserved }) ∷ [] }
+    ensures cycle { reads Exact (codes "# x\n2\na b 1\nb a 1\n") ≡ Err (record { line = 4; why = Cycle }) ∷ [] }
+    ensures itself { reads Exact (codes "# x\n2\na a 1\n") ≡ Err (record { line = 3; why = Cycle }) ∷ [] }
+    ensures fraction { reads Exact (codes "# x\n2\ns t 10.5\n") ≡ Err (record { line = 3; why = BadWeight }) ∷ [] }
+    ensures great { reads Exact (codes "# x\n2\ns t 1000000000001\n") ≡ Err (record { line = 3; why = BadWeight }) ∷ [] }
+    ensures word { reads Exact (codes "# x\ntwo\n") ≡ Err (record { line = 2; why = BadCount }) ∷ [] }
+    ensures fields { reads Exact (codes "# x\n2\ns t 5 6\n") ≡ Err (record { line = 3; why = BadFields }) ∷ [] }
+    ensures range { reads Interval (codes "# x\n2\ns t 5 4\n") ≡ Err (record { line = 3; why = BadRange }) ∷ [] }
+    ensures repeated { reads Exact (codes "# x\n2\ns t 1\ns t 1\n") ≡ Err (record { line = 4; why = RepeatedEdge }) ∷ [] }
+    ensures later { reads Exact (codes "# x\n#S s t\n2\ns t 1\n") ≡ Err (record { line = 2; why = Later }) ∷ [] }
+    ensures next { reads Exact (codes "# x\n2\ns t 1\n# y\n2\ns t 1.5\n") ≡ (reads Exact (codes "2\ns t 1\n") ++ Err (record { line = 6; why = BadWeight }) ∷ []) }
+{}
+
+/// The refusals past the limits.
+pub fn limits_are_kept()
+    ensures edges { reads Exact (codes "# x\n0\n" ++ edge_lines 257) ≡ Err (record { line = 259; why = TooManyEdges }) ∷ [] }
+    ensures long { reads Exact (codes "# x\n2\ns" ++ replicate 65533 32 ++ codes "t 1\n") ≡ Err (record { line = 3; why = LongLine }) ∷ [] }
+{}

@@ -1,0 +1,3 @@
+pub mod Greedy
+pub mod Widths
+pub mod Widest

@@ -1,0 +1,54 @@
+-- A line, word by word.
+use Rattle.std.proofs.Common.{◌≡◌, ℕ, ◌<◌, List, [], ◌∷◌, ◌++◌, length, get_or, sym, ◌∙◌, ap, append-nil, append_assoc, arith, refl, false, ◌==◌}
+use Rattle.std.specs.Prelude.{flat_map, map, codes, decimal}
+use Rattle.std.specs.List.{join_with_byte}
+use Rattle.std.proofs.lemmas.List.Folds.{flat_map-map}
+use Rattle.graph_text.specs.Labels.{LabelLists, name_at, tail_at, head_at}
+use Rattle.path_report.specs.Names.{names_along}
+use Rattle.path_report.specs.ReportText.{line, graph_line, path_line}
+use Rattle.path_report.specs.Sending.{spaced}
+
+join-fields : (word : List ℕ) (fields : List (List ℕ)) → join_with_byte 32 (word ∷ fields) ≡ word ++ flat_map spaced fields
+join-fields word [] = sym (append-nil word)
+join-fields word (f ∷ fields) = ap (λ x. word ++ (32 ∷ x)) (join-fields f fields)
+
+-- a line is its word, its other fields with a space before each, and a line feed
+pub line-of : {X : Type 0} (field : X → List ℕ) (word : List ℕ) (xs : List X) →
+    (word ++ flat_map (λ x. spaced (field x)) xs) ++ 10 ∷ [] ≡ line (word ∷ map field xs)
+line-of field word xs =
+    ap (λ x. x ++ 10 ∷ []) (ap (λ x. word ++ x) (sym (flat_map-map spaced field xs)) ∙ sym (join-fields word (map field xs)))
+
+-- the line of a block that has a name
+named : (index : ℕ) (name : List ℕ) → (length name == 0) ≡ false → line (codes "graph" ∷ decimal index ∷ name ∷ []) ≡ graph_line index name
+named index [] some = absurd (cc)
+named index (b ∷ name) some = refl
+
+pub graph_line-named : (index : ℕ) (digits given name : List ℕ) → digits ≡ decimal index → given ≡ name → (length given == 0) ≡ false →
+    line (codes "graph" ∷ digits ∷ given ∷ []) ≡ graph_line index name
+graph_line-named index digits given name d n some =
+    ap (λ x. line (codes "graph" ∷ x ∷ given ∷ [])) d ∙ named index given some ∙ ap (graph_line index) n
+
+-- the line of a path, by its parts
+pub path_line-parts : (labels : LabelLists) (path : List ℕ) (weight : ℕ) →
+    ((codes "path" ++ spaced (decimal weight)) ++ flat_map spaced (names_along labels path)) ++ 10 ∷ [] ≡ path_line labels (path, weight)
+path_line-parts labels path weight =
+    ap (λ x. x ++ 10 ∷ [])
+    (append_assoc (codes "path") (spaced (decimal weight)) (flat_map spaced (names_along labels path))
+    ∙ sym (join-fields (codes "path") (decimal weight ∷ names_along labels path)))
+
+-- the line of an entry, by its path and its weight
+pub path_line-entry : (labels : LabelLists) (entry : List ℕ × ℕ) (path : List ℕ) (weight : ℕ) → path ≡ entry.0 → weight ≡ entry.1 →
+    path_line labels (path, weight) ≡ path_line labels entry
+path_line-entry labels entry path weight p w =
+    ap (λ x. line (codes "path" ∷ decimal x ∷ names_along labels path)) w
+    ∙ ap (λ x. line (codes "path" ∷ decimal entry.1 ∷ names_along labels x)) p
+
+-- the names along a run: that of the first tail, and those of the heads
+pub names_along-run : (labels : LabelLists) (run : List ℕ) → 0 < length run →
+    spaced (name_at labels (tail_at labels (get_or run 0 0))) ++ flat_map (λ e. spaced (name_at labels (head_at labels e))) run
+    ≡ flat_map spaced (names_along labels run)
+names_along-run labels [] some = absurd (omega (arith, some))
+names_along-run labels (e ∷ run) some =
+    ap (λ x. spaced (name_at labels (tail_at labels e)) ++ x)
+    (sym (flat_map-map (λ v. spaced (name_at labels v)) (head_at labels) (e ∷ run))
+    ∙ sym (flat_map-map spaced (name_at labels) (map (head_at labels) (e ∷ run))))

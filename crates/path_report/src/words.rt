@@ -1,0 +1,34 @@
+//! The words of reports.
+ghost use Rattle.std.specs.Prelude.{◌≡◌};
+ghost use Rattle.path_report.specs.ReportText.{mark_word, why_word};
+
+use crate::report::Mark;
+use graph_text::Why;
+
+/// The word of a mark.
+pub fn word_of(mark: Mark) -> &'static [u8]
+    ensures { result.now ≡ mark_word mark }
+{
+    match mark {
+        Mark::Optimal => b"optimal",
+        Mark::Found => b"found",
+    }
+}
+
+/// The word of a refusal.
+pub fn name_of(why: Why) -> &'static [u8]
+    ensures { result.now ≡ why_word why }
+{
+    match why {
+        Why::Later => b"Later",
+        Why::LongLine => b"LongLine",
+        Why::BadCount => b"BadCount",
+        Why::BadFields => b"BadFields",
+        Why::BadWeight => b"BadWeight",
+        Why::BadRange => b"BadRange",
+        Why::RepeatedEdge => b"RepeatedEdge",
+        Why::TooManyEdges => b"TooManyEdges",
+        Why::Cycle => b"Cycle",
+        Why::Unconserved => b"Unconserved",
+    }
+}
