@@ -5,7 +5,7 @@ use Rattle.std.specs.List.{list_all, list_any, position_or_len, take_while}
 use Rattle.std.proofs.Common.{sym, ◌∙◌, ap, arith, subst, true≢false, get_or, length-append, append_assoc, append-nil, inl, inr}
 use Rattle.std.proofs.lemmas.Bool.{cond-true, cond-false, ltb-true, ltb-false, eqb-true, ne_eqb}
 use Rattle.std.proofs.lemmas.Bool.Decides.{nat_tests}
-use Rattle.std.proofs.lemmas.List.Folds.{length-prefix_len, list_all-append}
+use Rattle.std.proofs.lemmas.List.Folds.{length-prefix_len, list_all-append, list_any-append}
 use Rattle.std.proofs.lemmas.List.Sums.{take_while-cons}
 use Rattle.std.proofs.Math.Seq.{take-add}
 use Rattle.decomposition.specs.declared.Mode.{Mode}
@@ -332,3 +332,15 @@ Completes-end mode bytes block some hands = record {
   one_more = blocks-end bytes ∙ ap (λ l. complete bytes ++ l) (cond-true (is_graph (with_open (left_by bytes).open_line (left_by bytes).ended)) _ _ some);
   hands = ap Some hands;
 }
+
+-- blanks and a `#` have no line feed
+feedless_blanks : (bytes : List ℕ) → list_all is_blank bytes ≡ true → list_any is_feed bytes ≡ false
+feedless_blanks [] h = refl
+feedless_blanks (b ∷ bytes) h =
+    let parts = both_true (is_blank b) (list_all is_blank bytes) h in
+    ap (λ t. t || list_any is_feed bytes) (ne_eqb b 10 (λ e. true≢false (sym parts.0 ∙ ap is_blank e))) ∙ feedless_blanks bytes parts.1
+
+pub IsMark-one_line : (rest mark : List ℕ) → IsMark rest mark → list_any is_feed mark ≡ false
+IsMark-one_line rest mark h =
+    let blanks = take_while is_blank rest in
+    ap (list_any is_feed) h.hash ∙ list_any-append is_feed blanks (35 ∷ []) ∙ ap (λ t. t || false) (feedless_blanks blanks (all_blank rest))

@@ -1,17 +1,18 @@
 -- What is kept of a line in progress, and what it shows of the line.
 use Rattle.std.specs.Prelude.{◌≡◌, ℕ, ◌+◌, ◌-◌, ◌<◌, ◌≤◌, ◌^◌, ◌==◌, List, [], ◌∷◌, ◌++◌, length, take, drop, min, Bool, true, false, ◌≢◌, not, ◌&&◌, ◌||◌, if◌then◌else◌, zero, suc, refl, nat_lt}
-use Rattle.std.specs.List.{list_all, prefix_len}
+use Rattle.std.specs.List.{list_all, list_any, prefix_len, take_while}
 use Rattle.std.specs.Str.{bytes_eq}
 use Rattle.std.proofs.Common.{sym, ◌∙◌, ap, arith, true≢false, add-one, length-append, ne_eqb, eq-eqb, get_or, append-nil, ◌⊎◌, inl, inr, length-drop, subst}
 use Rattle.std.proofs.lemmas.Bool.{cond-true, cond-false, lt-ltb, ltb-false, cases_lt}
 use Rattle.std.proofs.lemmas.List.{take_all, take_min}
 use Rattle.std.proofs.lemmas.Bool.Decides.{nat_tests}
-use Rattle.std.proofs.lemmas.List.Folds.{length-prefix_len}
+use Rattle.std.proofs.lemmas.List.Folds.{length-prefix_len, list_any-append}
 use Rattle.graph_text.specs.Lines.{onto_first, without_return, is_blank, fields_of, fields_from, are_no_fields, are_hash_fields, are_run_fields, is_blank_line, is_hash_line, is_run_line}
 use Rattle.graph_text.specs.Blocks.{after_blanks}
-use Rattle.graph_text.specs.Draft.{ShowsLine}
+use Rattle.graph_text.specs.ShownLine.{ShowsLine}
 use Rattle.graph_text.specs.Reading.{line_at}
 use Rattle.graph_text.specs.OpenLine.{most_kept}
+use Rattle.graph_text.specs.Progress.{is_feed}
 use Rattle.graph_text.proofs.Growing.{blank-is, hash-is}
 
 -- a blank in front makes no difference
@@ -340,3 +341,31 @@ kept-longer bytes span old begun n room held n_is room_is begun_is =
 
 pub not_blank : (b : ℕ) → b ≢ 32 → b ≢ 9 → is_blank b ≡ false
 not_blank b space tab = ap (λ t. t || (b == 9)) (ne_eqb b 32 space) ∙ ne_eqb b 9 tab
+
+-- what is kept has no line feed, if the line has none
+any_take : (n : ℕ) (bytes : List ℕ) → list_any is_feed bytes ≡ false → list_any is_feed (take n bytes) ≡ false
+any_take zero bytes h = refl
+any_take (suc n) [] h = refl
+any_take (suc n) (b ∷ bytes) h =
+    cases (is_feed b) (list_any is_feed (b ∷ take n bytes) ≡ false)
+    (λ yes. absurd (true≢false (sym (ap (λ t. t || list_any is_feed bytes) yes) ∙ h)))
+    (λ other. ap (λ t. t || list_any is_feed (take n bytes)) other ∙ any_take n bytes (sym (ap (λ t. t || list_any is_feed bytes) other) ∙ h))
+
+any_drop : (n : ℕ) (bytes : List ℕ) → list_any is_feed bytes ≡ false → list_any is_feed (drop n bytes) ≡ false
+any_drop zero bytes h = h
+any_drop (suc n) [] h = refl
+any_drop (suc n) (b ∷ bytes) h =
+    cases (is_feed b) (list_any is_feed (drop n bytes) ≡ false)
+    (λ yes. absurd (true≢false (sym (ap (λ t. t || list_any is_feed bytes) yes) ∙ h)))
+    (λ other. any_drop n bytes (sym (ap (λ t. t || list_any is_feed bytes) other) ∙ h))
+
+one_line-begun : (is_begun : Bool) (span : List ℕ) → list_any is_feed span ≡ false → list_any is_feed (if is_begun then after_blanks span else span) ≡ false
+one_line-begun true span h = any_drop (length (take_while is_blank span)) span h
+one_line-begun false span h = h
+
+pub one_line-more : (is_taken is_begun : Bool) (old begun span new : List ℕ) (n : ℕ) → new ≡ (if is_taken then old ++ take n begun else old) →
+    begun ≡ (if is_begun then after_blanks span else span) → list_any is_feed old ≡ false → list_any is_feed span ≡ false → list_any is_feed new ≡ false
+one_line-more true is_begun old begun span new n new_is begun_is old_free span_free =
+    let more = any_take n begun (ap (list_any is_feed) begun_is ∙ one_line-begun is_begun span span_free) in
+    ap (list_any is_feed) new_is ∙ list_any-append is_feed old (take n begun) ∙ (λ i. old_free i || more i)
+one_line-more false is_begun old begun span new n new_is begun_is old_free span_free = ap (list_any is_feed) new_is ∙ old_free

@@ -8,6 +8,7 @@ ghost use Rattle.graph_text.specs.Progress.{Progress, left_by, is_feed, after_by
 
 use crate::block::Block;
 use crate::draft::Draft;
+use crate::fields::{is_hash_text, is_run_text, name_in_text};
 use crate::open_line::{self, OpenLine};
 use dag_net::Mode;
 use flow_io::Bytes;
@@ -26,10 +27,14 @@ fn line_end(bytes: &[u8]) -> usize
 }
 
 /// The name that the first line of a block gives it, by what is shown of the line.
-fn block_name(_alloc: Global, _is_long: bool, _text: &[u8]) -> Result<Bytes, AllocError>
-    ensures { IfOk result (λ name. name ≡ name_shown _is_long _text.now) }
+fn block_name(alloc: Global, is_long: bool, text: &[u8]) -> Result<Bytes, AllocError>
+    ensures { IfOk result (λ name. name ≡ name_shown is_long text.now) }
 {
-    Err(AllocError)
+    if is_long || !is_hash_text(text) || is_run_text(text) {
+        return Ok(Bytes::from_vec(Vec::new(alloc)));
+    }
+    let name = Vec::from_slice(alloc, name_in_text(text))?;
+    Ok(Bytes::from_vec(name))
 }
 
 /// The numbers of blocks and lines of a text so far, its line in progress, and its block in progress.
@@ -121,6 +126,7 @@ impl Cutter {
     fn begin_next(&mut self, mark: &[u8]) -> Result<Block, AllocError>
         requires counted { IsCounted self.old }
         requires some { 0 < self.old.ended }
+        requires one_line { list_any is_feed mark.now ≡ false }
         ensures block { IfOk result (λ block. (left : Progress) → Holds self.old left → MayComplete left
             → block ≡ handed self.old.mode (block_in left left.ended)) }
         ensures holds { OnOk result ((left : Progress) → Holds self.old left → Holds self.new (next_begun left mark.now)) }

@@ -1,10 +1,11 @@
 //! The line in progress.
 ghost use Rattle.std.specs.Prelude.{◌≡◌, ℕ, ◌+◌, ◌==◌, ◌≤◌, List, length, false, OnOk, if◌then◌else◌};
-ghost use Rattle.std.specs.List.{list_all, take_while};
+ghost use Rattle.std.specs.List.{list_all, list_any, take_while};
 ghost use Rattle.graph_text.specs.Blocks.{after_blanks};
-ghost use Rattle.graph_text.specs.Draft.{ShowsLine};
+ghost use Rattle.graph_text.specs.Progress.{is_feed};
 ghost use Rattle.graph_text.specs.Lines.{is_blank, is_blank_line, without_return};
 ghost use Rattle.graph_text.specs.Reading.{line_at};
+ghost use Rattle.graph_text.specs.ShownLine.{ShowsLine};
 
 use std::alloc::{AllocError, Global};
 
@@ -36,6 +37,7 @@ fn after_blanks(bytes: &[u8]) -> &[u8]
 /// The bytes without the one carriage return at their end, if they have one.
 fn without_return(bytes: &[u8]) -> &[u8]
     ensures value { result.now ≡ without_return bytes.now }
+    ensures one_line { list_any is_feed bytes.now ≡ false → list_any is_feed result.now ≡ false }
     ensures no_longer { length result.now ≤ length bytes.now }
     ensures one_less { length bytes.now ≤ length result.now + 1 }
 {
@@ -59,6 +61,7 @@ fn begun(span: &[u8], is_blank: bool) -> &[u8]
 pub struct OpenLine {
     length: usize,
     text: Vec<u8>,
+    ghost one_line: { list_any is_feed text.items ≡ false },
 }
 
 impl OpenLine {
@@ -91,6 +94,7 @@ impl OpenLine {
 
     /// Takes further bytes of the line. After an `Err` it is of no use.
     pub fn extend(&mut self, span: &[u8]) -> Result<(), AllocError>
+        requires one_line { list_any is_feed span.now ≡ false }
         ensures { OnOk result ((bytes : List ℕ) → HoldsLine self.old bytes → HoldsLine self.new (bytes ++ span.now)) }
     {
         let room = MOST_KEPT.saturating_sub(self.text.len());
@@ -115,6 +119,7 @@ impl OpenLine {
             → ShowsLine number result.0 result.1.now (line_at (number, without_return bytes)) }
         ensures text { (bytes : List ℕ) → HoldsLine self.now bytes → result.0 ≡ false
             → result.1.now ≡ after_blanks (without_return bytes) }
+        ensures one_line { list_any is_feed result.1.now ≡ false }
         ensures blank { (bytes : List ℕ) → HoldsLine self.now bytes
             → (length result.1.now == 0) ≡ is_blank_line (without_return bytes) }
     {

@@ -2,7 +2,7 @@ use Rattle.std.proofs.Common.{◌≡◌, ◌∙◌, ◌++◌, ◌-◌, ◌≤◌
 use Rattle.std.proofs.lemmas.List.{take_rest}
 use Rattle.graph_text.specs.Cutter.{GoesOn, IsMark}
 use Rattle.graph_text.specs.Progress.{left_by}
-use Rattle.graph_text.proofs.Holding.{goes-both, Cuts-whole, Cuts-block}
+use Rattle.graph_text.proofs.Holding.{goes-both, Cuts-whole, Cuts-block, IsMark-one_line}
 use Rattle.graph_text.proofs.cutter.Cutter.read.Goals as goal
 
 pub returns-in-Some-clause-cuts : goal.returns-in-Some-clause-cuts
@@ -35,3 +35,6 @@ pub returns-clause-cuts : goal.returns-clause-cuts
 returns-clause-cuts c = λ bytes held.
     let start = c.loop-taken.invariant in
     Cuts-whole c.args.self.now c.loop-taken.self bytes c.args.piece.now c.loop-taken.taken (omega arith) start.within (start.goes bytes held)
+
+pub begin_next-requires-clause-one_line : goal.begin_next-requires-clause-one_line
+begin_next-requires-clause-one_line c = IsMark-one_line _ _ c.in-Some.ensures.some.1

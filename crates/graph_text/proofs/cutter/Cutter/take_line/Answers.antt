@@ -36,3 +36,6 @@ returns-clause-takes c = λ bytes held none.
       open_line_is = c.in_ok-extend.ensures _ held.open_line_is;
       block_is = record { name_is = held.block_is.name_is; drafts = held.block_is.drafts };
     })))
+
+pub extend-requires : goal.extend-requires
+extend-requires c = record { one_line = ap (λ n. list_any is_feed (take n c.args.rest.now)) c.line_end-end.ensures.place ∙ no_feed c.args.rest.now }
