@@ -15,3 +15,4 @@ pub mod Accepting
 pub mod Verdicts
 pub mod DraftGraphs
 pub mod Drafting
+pub mod DraftBodies

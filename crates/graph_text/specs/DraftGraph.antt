@@ -1,9 +1,6 @@
 -- What the graph in a draft stands for: the edge lines that it was given.
-use Rattle.std.specs.Prelude.{◌≡◌, ℕ, ◌<◌, ◌==◌, ◌||◌, true, false, List, map, length, flat_map, Contains, All, Option, MatchOption}
+use Rattle.std.specs.Prelude.{◌≡◌, ℕ, List, map, length, flat_map, Contains, All}
 use Rattle.decomposition.specs.declared.Mode.{Mode}
-use Rattle.decomposition.specs.declared.Mode.TheVariants.{Exact}
-use Rattle.decomposition.specs.Flow.{IsBalanced, IsFirstUnbalanced}
-use Rattle.decomposition.specs.Graph.{Graph, edge_count, tail, head}
 use Rattle.graph_text.specs.declared.draft_graph.DraftGraph.{DraftGraph}
 use Rattle.graph_text.specs.Labels.{LabelLists}
 use Rattle.graph_text.specs.Reading.{Line, ends_of, distinct, vertex_of, edge_of, range_of}
@@ -29,14 +26,3 @@ pub record HoldsEdges (mode : Mode) (edges : List Line) (graph : DraftGraph) : T
   pub ranges_are : graph.ranges ≡ map (range_of mode) edges
   pub numbers : graph.edge_numbers.items ≡ numbers_of edges
   pub shaped : All (λ l. length (ends_of l) ≡ 2) edges
-
--- the first edge that a vertex is an end of
-pub record IsFirstAt (g : Graph) (v e : ℕ) : Type 0 where
-  pub there : e < edge_count g
-  pub named : ((tail g e == v) || (head g e == v)) ≡ true
-  pub earlier : (f : ℕ) → f < e → ((tail g f == v) || (head g f == v)) ≡ false
-
--- The first edge at the first unbalanced vertex of a flow, where there is one and the flow must be balanced.
-abbrev pub IsUnbalancedEdge : Mode → Graph → (ℕ → ℕ) → Option ℕ → Type 0
-IsUnbalancedEdge mode g flow found =
-    MatchOption found (mode ≡ Exact → IsBalanced g flow) (λ e. (mode ≡ Exact) × (v : ℕ) × IsFirstUnbalanced g flow v × IsFirstAt g v e)
