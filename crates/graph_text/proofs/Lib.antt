@@ -16,3 +16,4 @@ pub mod Verdicts
 pub mod DraftGraphs
 pub mod Drafting
 pub mod DraftBodies
+pub mod DraftRefusals

@@ -1,4 +1,4 @@
-use Rattle.std.proofs.Common.{◌≡◌, ap, ◌∙◌}
+use Rattle.std.proofs.Common.{◌≡◌, Ok, Err, ap, ◌∙◌}
 use Rattle.graph_text.proofs.DraftBodies.{body-cycle, body-unbalanced, body-graph}
 use Rattle.graph_text.proofs.draft_graph.DraftGraph.into_body.Goals as goal
 
@@ -18,4 +18,9 @@ returns-in-Some c = λ lines holds rises none.
     ∙ body-unbalanced c.args.mode lines rises none self.labels holds.names holds.edges_are self.edge_numbers.items holds.numbers self.ranges holds.ranges_are c.in-Ok.net built.0 built.1 c.in-Some.edge found
 
 pub returns : goal.returns
-returns c = ?
+returns c = λ lines holds rises none.
+    let self = c.args.self in
+    let built = rw c.in-Ok.is at c.in_ok-net.ensures in
+    let found = rw c.in_default.is at c.in_ok-edge.ensures in
+    ap (λ runs. Ok (record { labels = self.labels; net = c.in-Ok.net; ranges = self.ranges; runs = runs })) c.new.ensures
+    ∙ body-graph c.args.mode lines rises none self.labels holds.names holds.edges_are self.edge_numbers.items holds.numbers self.ranges holds.ranges_are c.in-Ok.net built.0 built.1 found
