@@ -1,15 +1,12 @@
 -- What a block is read as, from the graph that a draft holds of it.
-use Rattle.std.proofs.Common.{◌≡◌, ℕ, zero, suc, ◌<◌, ◌≤◌, List, [], ◌∷◌, map, take, length, get_or, slice_index, Result, Ok, Err, Option, Some, None, refl, sym, ap, subst, ◌∙◌, arith}
+use Rattle.std.proofs.Common.{◌≡◌, ℕ, zero, suc, List, [], ◌∷◌, map, take, length, get_or, slice_index, Ok, Err, Some, None, refl, sym, ap, subst, ◌∙◌, arith}
 use Rattle.std.proofs.lemmas.List.{take_all, length-map}
 use Rattle.decomposition.specs.declared.Mode.{Mode}
-use Rattle.decomposition.specs.declared.Mode.TheVariants.{Exact}
 use Rattle.decomposition.specs.declared.Range.{Range}
 use Rattle.decomposition.specs.Flow.{IsBalanced, IsFirstUnbalanced}
 use Rattle.decomposition.specs.Graph.{Graph, graph_of, IsNet}
-use Rattle.decomposition.specs.Instance.{range_at}
 use Rattle.dag_net.specs.Build.{FollowsNet, ClosesCycle}
 use Rattle.graph_text.specs.declared.block.RawGraph.{RawGraph}
-use Rattle.graph_text.specs.declared.refusal.Refusal.{Refusal}
 use Rattle.graph_text.specs.declared.refusal.Why.TheVariants.{Cycle, Unconserved}
 use Rattle.graph_text.specs.DraftGraph.{numbers_of}
 use Rattle.graph_text.specs.FirstEdges.{IsFirstAt, IsUnbalancedEdge}

@@ -1,22 +1,21 @@
 -- The refusal of a block from what its draft keeps of its lines.
-use Rattle.std.proofs.Common.{◌≡◌, ℕ, suc, ◌+◌, ◌-◌, ◌<◌, ◌≤◌, List, [], ◌∷◌, map, take, drop, length, get_or, true, false, not, Err, Option, Some, None, refl, sym, ap, ◌∙◌, arith, ⊎_elim}
-use Rattle.std.specs.List.{All, list_any}
+use Rattle.std.proofs.Common.{◌≡◌, ℕ, suc, ◌+◌, ◌-◌, ◌<◌, ◌≤◌, List, [], ◌∷◌, take, drop, length, get_or, true, false, not, Err, Option, Some, None, sym, ap, ◌∙◌, arith, ⊎_elim}
+use Rattle.std.specs.List.{All}
 use Rattle.std.specs.Option.{IfSome, IfNone, option_or, option_to_list}
 use Rattle.std.proofs.lemmas.Bool.{cases_lt}
 use Rattle.std.proofs.lemmas.List.{drop_more}
 use Rattle.std.proofs.lemmas.List.Elements.{All-nil, All-cons}
 use Rattle.std.proofs.lemmas.List.Kept.{AllPairs-filter}
 use Rattle.decomposition.specs.declared.Mode.{Mode}
-use Rattle.graph_text.specs.declared.block.RawGraph.{RawGraph}
 use Rattle.graph_text.specs.declared.draft.Draft.{Draft}
 use Rattle.graph_text.specs.declared.refusal.Refusal.{Refusal}
 use Rattle.graph_text.specs.declared.refusal.Why.TheVariants.{Later, BadCount}
-use Rattle.graph_text.specs.Draft.{Drafts, is_content, settled_refusals}
+use Rattle.graph_text.specs.Draft.{Drafts, settled_refusals}
 use Rattle.graph_text.specs.DraftGraph.{numbers_of}
 use Rattle.graph_text.specs.LineFaults.{NoneRefused}
 use Rattle.graph_text.specs.Lines.{are_no_fields, are_run_fields}
 use Rattle.graph_text.specs.Reading.{Line, filled_lines, content_lines, run_lines, last_filled, earliest, or_else, err_or, raw_graph_of, read_lines}
-use Rattle.graph_text.proofs.Drafting.{same_choice, none-content, some-content}
+use Rattle.graph_text.proofs.Drafting.{none-content, some-content}
 use Rattle.graph_text.proofs.Finishing.{Rises}
 use Rattle.graph_text.proofs.Verdicts.{read-later, no_run, read-settled, read-no_count}
 

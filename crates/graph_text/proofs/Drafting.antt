@@ -1,11 +1,11 @@
 -- How a draft stands for one more line.
-use Rattle.std.proofs.Common.{◌≡◌, ℕ, zero, suc, Contains, ◌<◌, ◌≤◌, ◌==◌, ◌∷◌, ◌++◌, [], List, length, take, drop, map, filter, Bool, true, false, not, ◌&&◌, ◌||◌, cond, ltb, Option, Some, None, refl, sym, ap, subst, ◌∙◌, arith, ⊎_elim}
+use Rattle.std.proofs.Common.{◌≡◌, ℕ, zero, suc, Contains, ◌<◌, ◌≤◌, ◌==◌, ◌∷◌, ◌++◌, [], List, length, take, drop, Bool, true, false, not, ◌&&◌, ◌||◌, cond, ltb, Option, Some, None, refl, sym, ap, subst, ◌∙◌, arith}
 use Rattle.std.specs.Bool.{then_some}
 use Rattle.std.specs.List.{All, list_any}
 use Rattle.std.specs.Option.{is_some, option_or, option_to_list}
 use Rattle.std.specs.Str.{bytes_eq}
-use Rattle.std.proofs.lemmas.Bool.{true≢false, false≢true, eqb-true, eqb-false, not-true, not-false, cases_Bool, cond-true, cond-false, false_from_ne_true, or_right, or_from, ne_eqb}
-use Rattle.std.proofs.lemmas.List.{append-nil, nil_from_length}
+use Rattle.std.proofs.lemmas.Bool.{true≢false, false≢true, eqb-true, eqb-false, not-true, not-false, false_from_ne_true, or_right}
+use Rattle.std.proofs.lemmas.List.{nil_from_length}
 use Rattle.std.proofs.lemmas.List.Elements.{All-contains}
 use Rattle.dag_net.proofs.Lists.{AllPairs-append}
 use Rattle.graph_text.proofs.Finishing.{Rises}
@@ -20,7 +20,7 @@ use Rattle.graph_text.specs.DraftGraph.{HoldsEdges, numbers_of}
 use Rattle.graph_text.specs.Lines.{are_no_fields, are_hash_fields, are_run_fields, begins_with_hash}
 use Rattle.graph_text.specs.LineFaults.{refusal_at, fault_of_hash}
 use Rattle.graph_text.specs.declared.refusal.Why.TheVariants.{LongLine}
-use Rattle.graph_text.specs.Reading.{Line, most_bytes, filled_lines, content_lines, run_lines, edge_lines, last_filled, earliest, or_else}
+use Rattle.graph_text.specs.Reading.{Line, most_bytes, content_lines, run_lines, edge_lines, earliest, or_else}
 use Rattle.graph_text.specs.ShownLine.{IsBlank, IsHash, IsContent}
 use Rattle.graph_text.proofs.LineByLine.{content-blank, content-any, last-more, last-blank, runs-other, runs-more}
 use Rattle.graph_text.proofs.SettledRefusals.{settled-blank}

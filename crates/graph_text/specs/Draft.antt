@@ -1,5 +1,5 @@
 -- What a draft of a block stands for: the lines that it was given.
-use Rattle.std.specs.Prelude.{◌≡◌, ◌≤◌, List, take, AllPairs, Option, None, option_to_list}
+use Rattle.std.specs.Prelude.{◌≡◌, ◌≤◌, List, take, AllPairs, None, option_to_list}
 use Rattle.std.specs.List.{list_any}
 use Rattle.decomposition.specs.declared.Mode.{Mode}
 use Rattle.graph_text.specs.declared.draft.Draft.{Draft}

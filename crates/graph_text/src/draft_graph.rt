@@ -78,7 +78,13 @@ impl DraftGraph {
     }
 
     /// Takes the edge of the line of this number, or says what is wrong with it.
-    pub fn add(&mut self, number: u64, tail: &[u8], head: &[u8], range: Range) -> Result<Option<Why>, AllocError>
+    pub fn add(
+        &mut self,
+        number: u64,
+        tail: &[u8],
+        head: &[u8],
+        range: Range,
+    ) -> Result<Option<Why>, AllocError>
         requires tail { IsTrue (is_field tail.now) }
         requires head { IsTrue (is_field head.now) }
         requires small { range.lo ≤ most_weight }
@@ -103,7 +109,13 @@ impl DraftGraph {
     }
 
     /// Takes an edge line, or says what is wrong with it.
-    pub fn add_line(&mut self, mode: Mode, number: u64, is_long: bool, text: &[u8]) -> Result<Option<Why>, AllocError>
+    pub fn add_line(
+        &mut self,
+        mode: Mode,
+        number: u64,
+        is_long: bool,
+        text: &[u8],
+    ) -> Result<Option<Why>, AllocError>
         requires one_line { list_any (λ b. b == 10) text.now ≡ false }
         ensures fault { IfOk result (λ fault. (edges : List Line) (line : Line) → HoldsEdges mode edges self.old
             → ShowsLine number is_long text.now line → fault ≡ fault_of_edge mode edges line) }
@@ -146,7 +158,12 @@ impl DraftGraph {
     }
 
     /// In the exact model, the first edge at the first vertex that is not balanced.
-    fn unbalanced_edge(&self, alloc: Global, mode: Mode, net: &Net) -> Result<Option<u32>, AllocError>
+    fn unbalanced_edge(
+        &self,
+        alloc: Global,
+        mode: Mode,
+        net: &Net,
+    ) -> Result<Option<u32>, AllocError>
         requires { net.now ≡ graph_of (length self.now.labels.names) self.now.labels.edges }
         ensures { IfOk result (IsUnbalancedEdge mode net.now
             (slice_index (map (λ (r : Bounds). r.lo) (take (length self.now.labels.edges) self.now.ranges)))) }
@@ -172,7 +189,11 @@ impl DraftGraph {
     }
 
     /// What a block is read as that has this graph and no line that is refused for itself or the lines before it.
-    pub fn into_body(self, alloc: Global, mode: Mode) -> Result<Result<RawGraph, Refusal>, AllocError>
+    pub fn into_body(
+        self,
+        alloc: Global,
+        mode: Mode,
+    ) -> Result<Result<RawGraph, Refusal>, AllocError>
         ensures { IfOk result (λ body. (lines : List Line) → HoldsEdges mode (edge_lines lines) self
             → AllPairs (λ a b. a.number ≤ b.number) lines → NoneRefused mode lines → body ≡ read_lines mode lines) }
     {

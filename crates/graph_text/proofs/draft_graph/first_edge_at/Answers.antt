@@ -1,4 +1,4 @@
-use Rattle.std.proofs.Common.{◌≡◌, ◌==◌, arith}
+use Rattle.std.proofs.Common.{◌==◌, arith}
 use Rattle.std.proofs.lemmas.Bool.{or_parts, eqb-false}
 use Rattle.decomposition.specs.Graph.{tail, head}
 use Rattle.decomposition.proofs.Balance.{inner-parts}

@@ -1,4 +1,4 @@
-use Rattle.std.proofs.Common.{◌≡◌, ◌<◌, List, sym, subst, ◌∙◌}
+use Rattle.std.proofs.Common.{◌<◌, sym, subst, ◌∙◌}
 use Rattle.std.specs.List.{All}
 use Rattle.graph_text.specs.Reading.{Line}
 use Rattle.std.proofs.lemmas.Result.{on_ok_weaker}

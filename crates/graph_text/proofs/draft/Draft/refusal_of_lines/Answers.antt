@@ -1,4 +1,3 @@
-use Rattle.std.proofs.Common.{◌≡◌, ap, subst, sym, ◌∙◌}
 use Rattle.graph_text.proofs.DraftRefusals.{refused-later, refused-standing, none-standing, refused-no_count}
 use Rattle.graph_text.proofs.draft.Draft.refusal_of_lines.Goals as goal
 
