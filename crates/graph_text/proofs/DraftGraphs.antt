@@ -1,7 +1,6 @@
 -- What a draft graph says of one more edge line.
 use Rattle.std.proofs.Common.{◌≡◌, ℕ, ◌<◌, ◌==◌, [], ltb, Bool, true, false, cond, List, length, Option, Some, None, Contains, position, refl, sym, ap, subst, ◌∙◌, map, arith, ⊎_elim}
-use Rattle.std.specs.Bool.{MatchBool}
-use Rattle.std.specs.List.{list_any, position_or_len}
+use Rattle.std.specs.List.{list_any}
 use Rattle.std.specs.Option.{MatchOption, is_some}
 use Rattle.std.specs.Prelude.{IsTrue, ◌↔◌}
 use Rattle.std.specs.Str.{bytes_eq}
@@ -11,8 +10,6 @@ use Rattle.std.specs.declared.alloc.Global.{Global}
 use Rattle.std.proofs.lemmas.Bool.{false≢true, cond-true, cond-false, cases_Bool}
 use Rattle.std.proofs.lemmas.List.{get_or_default, length-map}
 use Rattle.std.proofs.lemmas.List.Elements.{Contains-get_or}
-use Rattle.decomposition.specs.Graph.{same_ends}
-use Rattle.graph_text.specs.declared.refusal.Why.{Why}
 use Rattle.graph_text.specs.declared.refusal.Why.TheVariants.{RepeatedEdge, TooManyEdges}
 use Rattle.graph_text.specs.DraftGraph.{HasEdge}
 use Rattle.graph_text.specs.Labels.{LabelLists, name_at, tail_at, head_at}
@@ -39,17 +36,19 @@ pub HasEdge-numbers : (labels : LabelLists) (tail head : List ℕ) (u v : ℕ) (
     → (u < length labels.names) × (name_at labels u ≡ tail) → (v < length labels.names) × (name_at labels v ≡ head)
     → MatchOption found (¬ Contains labels.edges (u, v)) (λ e. (e < length labels.edges) × (tail_at labels e ≡ u) × (head_at labels e ≡ v))
     → IsTrue (is_some found) ↔ HasEdge labels tail head
-HasEdge-numbers labels tail head u v None pu pv fu fv is =
-    (λ t. absurd (false≢true t),
-    λ h. absurd (is (subst (λ (edge : ℕ × ℕ). Contains labels.edges edge) (edge_numbers labels tail head u v pu pv) h.joined)))
-HasEdge-numbers labels tail head u v (Some e) pu pv fu fv is =
-    (λ t. record {
-      tail_named = subst (Contains labels.names) fu.1 (Contains-get_or labels.names u [] fu.0);
-      head_named = subst (Contains labels.names) fv.1 (Contains-get_or labels.names v [] fv.0);
-      joined = subst (λ (edge : ℕ × ℕ). Contains labels.edges edge) (sym (edge_numbers labels tail head u v pu pv))
-          (e, is.0, get_or_default labels.edges e (u, v) (0, 0) is.0 ∙ (λ i. (is.1 i, is.2 i)));
-    },
-    λ h. refl)
+HasEdge-numbers labels tail head u v None pu pv fu fv is = (
+  λ t. absurd (false≢true t),
+  λ h. absurd (is (subst (λ (edge : ℕ × ℕ). Contains labels.edges edge) (edge_numbers labels tail head u v pu pv) h.joined)),
+)
+HasEdge-numbers labels tail head u v (Some e) pu pv fu fv is = (
+  λ t. record {
+    tail_named = subst (Contains labels.names) fu.1 (Contains-get_or labels.names u [] fu.0);
+    head_named = subst (Contains labels.names) fv.1 (Contains-get_or labels.names v [] fv.0);
+    joined = subst (λ (edge : ℕ × ℕ). Contains labels.edges edge) (sym (edge_numbers labels tail head u v pu pv))
+        (e, is.0, get_or_default labels.edges e (u, v) (0, 0) is.0 ∙ (λ i. (is.1 i, is.2 i)));
+  },
+  λ h. refl,
+)
 
 -- what is wrong with an edge line among others, by the two tests
 pub fault_among-is : (edges : List Line) (line : Line) (repeats many : Bool) → list_any (λ e. same_fields (ends_of e) (ends_of line)) edges ≡ repeats → (length edges == most_edges) ≡ many

@@ -1,12 +1,14 @@
 -- How a draft stands for one more line.
-use Rattle.std.proofs.Common.{◌≡◌, ℕ, ◌<◌, ◌≤◌, ◌==◌, ◌∷◌, ◌++◌, [], List, length, take, drop, map, filter, Bool, true, false, not, ◌&&◌, ◌||◌, cond, ltb, Option, Some, None, refl, sym, ap, subst, ◌∙◌, arith, ⊎_elim}
+use Rattle.std.proofs.Common.{◌≡◌, ℕ, zero, suc, Contains, ◌<◌, ◌≤◌, ◌==◌, ◌∷◌, ◌++◌, [], List, length, take, drop, Bool, true, false, not, ◌&&◌, ◌||◌, cond, ltb, Option, Some, None, refl, sym, ap, subst, ◌∙◌, arith}
 use Rattle.std.specs.Bool.{then_some}
 use Rattle.std.specs.List.{All, list_any}
 use Rattle.std.specs.Option.{is_some, option_or, option_to_list}
 use Rattle.std.specs.Str.{bytes_eq}
-use Rattle.std.proofs.lemmas.Bool.{true≢false, false≢true, eqb-true, eqb-false, not-true, not-false, cases_Bool, cond-true, cond-false, false_from_ne_true, or_right, or_from, ne_eqb}
-use Rattle.std.proofs.lemmas.List.{append-nil, nil_from_length}
-use Rattle.std.proofs.lemmas.List.Elements.{All-push, All-weaker, All-filter}
+use Rattle.std.proofs.lemmas.Bool.{true≢false, false≢true, eqb-true, eqb-false, not-true, not-false, false_from_ne_true, or_right}
+use Rattle.std.proofs.lemmas.List.{nil_from_length}
+use Rattle.std.proofs.lemmas.List.Elements.{All-contains}
+use Rattle.dag_net.proofs.Lists.{AllPairs-append}
+use Rattle.graph_text.proofs.Finishing.{Rises}
 use Rattle.std.proofs.lemmas.List.Folds.{list_any-append}
 use Rattle.std.proofs.lemmas.Slice.Eq.{bytes_eq-Decides}
 use Rattle.decomposition.specs.declared.Mode.{Mode}
@@ -18,9 +20,9 @@ use Rattle.graph_text.specs.DraftGraph.{HoldsEdges, numbers_of}
 use Rattle.graph_text.specs.Lines.{are_no_fields, are_hash_fields, are_run_fields, begins_with_hash}
 use Rattle.graph_text.specs.LineFaults.{refusal_at, fault_of_hash}
 use Rattle.graph_text.specs.declared.refusal.Why.TheVariants.{LongLine}
-use Rattle.graph_text.specs.Reading.{Line, most_bytes, filled_lines, content_lines, run_lines, edge_lines, last_filled, earliest, or_else}
+use Rattle.graph_text.specs.Reading.{Line, most_bytes, content_lines, run_lines, edge_lines, earliest, or_else}
 use Rattle.graph_text.specs.ShownLine.{IsBlank, IsHash, IsContent}
-use Rattle.graph_text.proofs.LineByLine.{filled-blank, filled-some, content-blank, content-any, last-more, last-blank, runs-other, runs-more}
+use Rattle.graph_text.proofs.LineByLine.{content-blank, content-any, last-more, last-blank, runs-other, runs-more}
 use Rattle.graph_text.proofs.SettledRefusals.{settled-blank}
 
 -- the same choice in two words
@@ -73,14 +75,16 @@ later-more lines l later true e h =
 later-more lines l None false e h = h ∙ sym (ap (λ r. numbers_of (take 1 r)) (runs-other lines l e))
 later-more lines l (Some n) false e h = h ∙ sym (ap (λ r. numbers_of (take 1 r)) (runs-other lines l e))
 
--- the lines that are not blank are in order, after one more
-pub order-more : (lines : List Line) (l : Line) (m : ℕ) → All (λ k. k.number < l.number) lines → are_no_fields l.fields ≡ false → l.number ≡ m → All (λ k. k.number ≤ m) (filled_lines (lines ++ l ∷ []))
-order-more lines l m below some e =
-    subst (All (λ (k : Line). k.number ≤ m)) (sym (filled-some lines l some))
-    (All-push (λ (k : Line). k.number ≤ m) (filled_lines lines) l
-    (All-filter (λ l. not (are_no_fields l.fields)) (λ (k : Line). k.number ≤ m) lines
-    (All-weaker (λ (k : Line). k.number < l.number) (λ (k : Line). k.number ≤ m) (λ k less. omega (arith, less)) lines below))
-    (omega arith))
+-- the numbers of lines rise, after one more
+pub rising-more : (lines : List Line) (l : Line) → All (λ k. k.number < l.number) lines → Rises lines → Rises (lines ++ l ∷ [])
+rising-more lines l below rises =
+    AllPairs-append (λ (a b : Line). a.number ≤ b.number) lines (l ∷ []) rises
+    (λ i j d less within. absurd (omega arith))
+    (λ a b first second. later a b (All-contains (λ (k : Line). k.number < l.number) lines a below first) second)
+  where
+    later : (a b : Line) → a.number < l.number → Contains (l ∷ []) b → a.number ≤ b.number
+    later a b less (zero, within, same) = let e : l.number ≡ b.number = ap (λ (k : Line). k.number) same in omega arith
+    later a b less (suc k, within, same) = absurd (omega arith)
 
 -- no refusal stands where none stood and the line has no fault
 none_stands : (r : Option Refusal) (n : ℕ) (fault : Option Why) → or_else r (refusal_at n fault) ≡ None → (r ≡ None) × (fault ≡ None)
@@ -100,19 +104,19 @@ Drafts-more mode lines l d d' fault h below some settled same filled last later 
   mode_is = same ∙ h.mode_is;
   filled = filled;
   last = ap option_to_list last ∙ sym (ap numbers_of (last-more lines l some));
-  in_order = λ n e. let m : l.number ≡ n = (let f : ◌≡◌ {A = Option ℕ} (Some l.number) (Some n) = sym last ∙ e in cc) in order-more lines l n below some m;
+  rising = rising-more lines l below h.rising;
   later = later;
   refusal_is = refusal ∙ ap (λ r. or_else r (refusal_at l.number fault)) h.refusal_is ∙ sym settled;
   graph_is = λ none. let both = none_stands d.refusal l.number fault (sym refusal ∙ none) in graph both.0 both.1;
 }
 
 -- a draft that stood for some lines stands for a blank one more
-pub Drafts-blank : (mode : Mode) (lines : List Line) (l : Line) (d : Draft) → Drafts mode lines d → IsBlank l → Drafts mode (lines ++ l ∷ []) d
-Drafts-blank mode lines l d h blank = record {
+pub Drafts-blank : (mode : Mode) (lines : List Line) (l : Line) (d : Draft) → Drafts mode lines d → All (λ k. k.number < l.number) lines → IsBlank l → Drafts mode (lines ++ l ∷ []) d
+Drafts-blank mode lines l d h below blank = record {
   mode_is = h.mode_is;
   filled = h.filled ∙ sym (filled-other lines l (ap (λ b. not b && not (are_hash_fields l.fields)) blank.none));
   last = h.last ∙ sym (ap numbers_of (last-blank lines l blank));
-  in_order = λ n e. subst (All (λ (k : Line). k.number ≤ n)) (sym (filled-blank lines l blank)) (h.in_order n e);
+  rising = rising-more lines l below h.rising;
   later = h.later ∙ sym (ap (λ r. numbers_of (take 1 r)) (runs-other lines l (no_run-blank l.fields blank.none)));
   refusal_is = h.refusal_is ∙ sym (settled-blank mode lines l blank);
   graph_is = λ none. subst (λ (c : List Line). HoldsEdges mode (drop 1 c) d.graph) (sym (content-blank lines l blank)) (h.graph_is none);

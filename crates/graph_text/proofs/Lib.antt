@@ -30,3 +30,5 @@ pub mod DraftGraphs
 pub mod Drafting
 pub mod KeptLines
 pub mod Holding
+pub mod DraftBodies
+pub mod DraftRefusals

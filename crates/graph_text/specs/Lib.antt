@@ -6,6 +6,7 @@ pub mod Progress
 pub mod Reading
 pub mod LineFaults
 pub mod ShownLine
+pub mod FirstEdges
 pub mod DraftGraph
 pub mod Draft
 pub mod OpenLine

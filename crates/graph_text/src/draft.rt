@@ -1,10 +1,10 @@
 //! What is known of a block while its lines come.
-ghost use Rattle.std.specs.Prelude.{◌≡◌, ℕ, true, not, ◌||◌, ◌==◌, ◌<◌, List, [], ◌∷◌, ◌++◌, length, All, Option, IfOk, OnOk, false};
+ghost use Rattle.std.specs.Prelude.{◌≡◌, ℕ, true, not, ◌||◌, ◌==◌, ◌<◌, List, [], ◌∷◌, ◌++◌, length, All, IfOk, IfSome, IfNone, OnOk, false};
 ghost use Rattle.std.specs.List.{list_any};
 ghost use Rattle.decomposition.specs.declared.Mode.{Mode as Model};
-ghost use Rattle.graph_text.specs.LineFaults.{fault_of_count, refusal_at};
+ghost use Rattle.graph_text.specs.LineFaults.{NoneRefused, fault_of_count, refusal_at};
 ghost use Rattle.graph_text.specs.ShownLine.{ShowsLine};
-ghost use Rattle.graph_text.specs.Reading.{Line, content_lines, filled_lines, run_lines, or_else, read_lines};
+ghost use Rattle.graph_text.specs.Reading.{Line, filled_lines, run_lines, read_lines};
 
 use crate::block::RawGraph;
 use crate::draft_graph::DraftGraph;
@@ -142,5 +142,40 @@ impl Draft {
         let fault = self.graph.add_line(self.mode, number, is_long, text)?;
         self.refusal = refusal_at(number, fault);
         Ok(())
+    }
+
+    /// The refusal of a line of the block for itself or for the lines before it, or for being the last where no line counts.
+    fn refusal_of_lines(&self) -> Option<Refusal>
+        ensures refused { (mode : Model) (lines : List Line) → Drafts mode lines self.now → 0 < length (filled_lines lines)
+            → IfSome result (λ r. read_lines mode lines ≡ Err r) }
+        ensures none { (mode : Model) (lines : List Line) → Drafts mode lines self.now → 0 < length (filled_lines lines)
+            → IfNone result (NoneRefused mode lines) }
+    {
+        if let Some(line) = self.later {
+            return Some(Refusal {
+                line,
+                why: Why::Later,
+            });
+        }
+        if self.is_filled {
+            return self.refusal;
+        }
+        let line = self.last_filled?;
+        let no_count = Refusal {
+            line,
+            why: Why::BadCount,
+        };
+        self.refusal.or(Some(no_count))
+    }
+
+    /// What the block is read as.
+    pub fn into_body(self, alloc: Global) -> Result<Result<RawGraph, Refusal>, AllocError>
+        ensures { IfOk result (λ body. (mode : Model) (lines : List Line) → Drafts mode lines self
+            → 0 < length (filled_lines lines) → body ≡ read_lines mode lines) }
+    {
+        if let Some(refusal) = self.refusal_of_lines() {
+            return Ok(Err(refusal));
+        }
+        self.graph.into_body(alloc, self.mode)
     }
 }

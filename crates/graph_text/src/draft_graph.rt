@@ -1,21 +1,39 @@
 //! The graph of a block while its edge lines come.
-ghost use Rattle.std.specs.Prelude.{◌≡◌, ℕ, ◌<◌, ◌≤◌, ◌*◌, ◌==◌, ◌↔◌, false, List, [], ◌∷◌, ◌++◌, length, vec_len, All, IsTrue, IfOk, None};
+ghost use Rattle.std.specs.Prelude.{◌≡◌, ℕ, ◌<◌, ◌≤◌, ◌*◌, ◌==◌, ◌↔◌, false, List, [], ◌∷◌, ◌++◌, length, take, map, slice_index, vec_len, AllPairs, MatchResult, All, IsTrue, IfOk, None};
 ghost use Rattle.std.specs.List.{list_any};
 ghost use Rattle.decomposition.specs.declared.Mode.{Mode as Model};
+ghost use Rattle.decomposition.specs.declared.Range.{Range as Bounds};
+ghost use Rattle.decomposition.specs.Graph.{graph_of, IsNet, is_inner};
+ghost use Rattle.dag_net.specs.Build.{FollowsNet, ClosesCycle};
+ghost use Rattle.graph_text.specs.FirstEdges.{IsFirstAt, IsUnbalancedEdge};
 ghost use Rattle.graph_text.specs.Labels.{is_field};
-ghost use Rattle.graph_text.specs.LineFaults.{fault_among, fault_of_edge};
-ghost use Rattle.graph_text.specs.Reading.{Line, most_weight, ends_of, range_of};
+ghost use Rattle.graph_text.specs.LineFaults.{fault_among, fault_of_edge, NoneRefused};
+ghost use Rattle.graph_text.specs.Reading.{Line, most_weight, ends_of, edge_lines, range_of, read_lines};
 ghost use Rattle.graph_text.specs.ShownLine.{ShowsLine};
 
+use crate::block::RawGraph;
 use crate::edge_line::read_range;
 use crate::fields::fields;
 use crate::labels::Labels;
-use crate::refusal::Why;
-use dag_net::{Mode, Range, Ranges};
+use crate::refusal::{Refusal, Why};
+use dag_net::{BuildFault, IdLists, Mode, Net, Range, Ranges};
 use std::alloc::{AllocError, Global};
 
 /// The most edges of a block.
 const MOST_EDGES: usize = 256;
+
+/// The first edge that the vertex is an end of.
+fn first_edge_at(net: &Net, v: u32) -> u32
+    requires { IsTrue (is_inner net.now v) }
+    ensures { IsFirstAt net.now v result }
+{
+    for e in 0..net.edges() {
+        if net.tail(e) == v || net.head(e) == v {
+            return e;
+        }
+    }
+    unreachable!()
+}
 
 /// The names, the edges with their ranges, and the number of the line of each edge.
 #[derive(Drop)]
@@ -60,7 +78,13 @@ impl DraftGraph {
     }
 
     /// Takes the edge of the line of this number, or says what is wrong with it.
-    pub fn add(&mut self, number: u64, tail: &[u8], head: &[u8], range: Range) -> Result<Option<Why>, AllocError>
+    pub fn add(
+        &mut self,
+        number: u64,
+        tail: &[u8],
+        head: &[u8],
+        range: Range,
+    ) -> Result<Option<Why>, AllocError>
         requires tail { IsTrue (is_field tail.now) }
         requires head { IsTrue (is_field head.now) }
         requires small { range.lo ≤ most_weight }
@@ -85,7 +109,13 @@ impl DraftGraph {
     }
 
     /// Takes an edge line, or says what is wrong with it.
-    pub fn add_line(&mut self, mode: Mode, number: u64, is_long: bool, text: &[u8]) -> Result<Option<Why>, AllocError>
+    pub fn add_line(
+        &mut self,
+        mode: Mode,
+        number: u64,
+        is_long: bool,
+        text: &[u8],
+    ) -> Result<Option<Why>, AllocError>
         requires one_line { list_any (λ b. b == 10) text.now ≡ false }
         ensures fault { IfOk result (λ fault. (edges : List Line) (line : Line) → HoldsEdges mode edges self.old
             → ShowsLine number is_long text.now line → fault ≡ fault_of_edge mode edges line) }
@@ -100,5 +130,85 @@ impl DraftGraph {
             Ok(range) => self.add(number, fields[0], fields[1], range),
             Err(why) => Ok(Some(why)),
         }
+    }
+
+    /// The weights of the edges: the lower ends of their ranges.
+    fn weights(&self, alloc: Global) -> Result<Vec<u64>, AllocError>
+        ensures weights { IfOk result (λ weights. weights.items ≡ map (λ (r : Bounds). r.lo) (take (length self.now.labels.edges) self.now.ranges)) }
+        ensures count { IfOk result (λ weights. length weights.items ≡ length self.now.labels.edges) }
+        ensures small { IfOk result (λ weights. All (λ units. units ≤ 1000000000000) weights.items) }
+    {
+        let count = self.labels.edges().len();
+        let ranges = &self.ranges.as_slice()[..count];
+        ranges.iter().map(|range| range.lo).collect(alloc)
+    }
+
+    /// The net of the edges, or the first of them that closes a cycle with those before it.
+    fn build_net(&self, alloc: Global) -> Result<Result<Net, u32>, AllocError>
+        ensures { let g = graph_of (length self.now.labels.names) self.now.labels.edges in
+            IfOk result (λ built. MatchResult built (λ net. (net ≡ g) × IsNet net) (λ e. FollowsNet g e × ClosesCycle g e)) }
+    {
+        match Net::build(alloc, self.labels.vertices() as u32, self.labels.edges()) {
+            Ok(net) => Ok(Ok(net)),
+            Err(BuildFault::Cycle { edge }) => Ok(Err(edge)),
+            Err(BuildFault::Memory) => Err(AllocError),
+            Err(BuildFault::Bounds { edge: _ }) => unreachable!(),
+            Err(BuildFault::Repeated { edge: _ }) => unreachable!(),
+        }
+    }
+
+    /// In the exact model, the first edge at the first vertex that is not balanced.
+    fn unbalanced_edge(
+        &self,
+        alloc: Global,
+        mode: Mode,
+        net: &Net,
+    ) -> Result<Option<u32>, AllocError>
+        requires { net.now ≡ graph_of (length self.now.labels.names) self.now.labels.edges }
+        ensures { IfOk result (IsUnbalancedEdge mode net.now
+            (slice_index (map (λ (r : Bounds). r.lo) (take (length self.now.labels.edges) self.now.ranges)))) }
+    {
+        match mode {
+            Mode::Exact => {}
+            Mode::Interval | Mode::Abs { k: _ } => return Ok(None),
+        }
+        let weights = self.weights(alloc)?;
+        let Some(v) = net.first_unbalanced(alloc, &weights)? else {
+            return Ok(None);
+        };
+        Ok(Some(first_edge_at(net, v)))
+    }
+
+    /// The refusal of the line of an edge.
+    fn refusal(&self, edge: u32, why: Why) -> Refusal
+        requires { edge < length self.now.labels.edges }
+        ensures { result ≡ record { line = slice_index self.now.edge_numbers.items edge; why = why } }
+    {
+        let line = self.edge_numbers[edge as usize];
+        Refusal { line, why }
+    }
+
+    /// What a block is read as that has this graph and no line that is refused for itself or the lines before it.
+    pub fn into_body(
+        self,
+        alloc: Global,
+        mode: Mode,
+    ) -> Result<Result<RawGraph, Refusal>, AllocError>
+        ensures { IfOk result (λ body. (lines : List Line) → HoldsEdges mode (edge_lines lines) self
+            → AllPairs (λ a b. a.number ≤ b.number) lines → NoneRefused mode lines → body ≡ read_lines mode lines) }
+    {
+        let net = match self.build_net(alloc)? {
+            Ok(net) => net,
+            Err(edge) => return Ok(Err(self.refusal(edge, Why::Cycle))),
+        };
+        if let Some(edge) = self.unbalanced_edge(alloc, mode, &net)? {
+            return Ok(Err(self.refusal(edge, Why::Unconserved)));
+        }
+        Ok(Ok(RawGraph {
+            labels: self.labels,
+            net,
+            ranges: self.ranges,
+            runs: IdLists::new(alloc),
+        }))
     }
 }

@@ -1,11 +1,13 @@
-use Rattle.std.proofs.Common.{◌≡◌, sym, ◌∙◌}
+use Rattle.std.proofs.Common.{◌<◌, sym, subst, ◌∙◌}
+use Rattle.std.specs.List.{All}
+use Rattle.graph_text.specs.Reading.{Line}
 use Rattle.std.proofs.lemmas.Result.{on_ok_weaker}
 use Rattle.graph_text.proofs.Drafting.{Drafts-blank}
 use Rattle.graph_text.proofs.draft.Draft.add.Goals as goal
 
 pub returns-then-is_blank_text : goal.returns-then-is_blank_text
 returns-then-is_blank_text c = λ mode lines line drafts below shows.
-    Drafts-blank mode lines line c.args.self.now drafts (record { none = shows.blank ∙ sym c.is_blank_text.ensures ∙ c.if-is_blank_text.true })
+    Drafts-blank mode lines line c.args.self.now drafts (subst (λ n. All (λ (k : Line). k.number < n) lines) (sym shows.number_is) below) (record { none = shows.blank ∙ sym c.is_blank_text.ensures ∙ c.if-is_blank_text.true })
 
 pub returns-then-is_hash_text : goal.returns-then-is_hash_text
 returns-then-is_hash_text c = λ mode lines line drafts below shows.

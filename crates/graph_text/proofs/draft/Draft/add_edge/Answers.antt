@@ -1,4 +1,4 @@
-use Rattle.std.proofs.Common.{◌≡◌, ◌<◌, ◌∷◌, ◌++◌, [], List, Some, None, sym, ap, subst, ◌∙◌, refl, drop}
+use Rattle.std.proofs.Common.{◌<◌, ◌∷◌, ◌++◌, [], List, Some, sym, ap, subst, ◌∙◌, refl}
 use Rattle.std.specs.List.{All}
 use Rattle.graph_text.specs.DraftGraph.{HoldsEdges}
 use Rattle.graph_text.specs.LineFaults.{refusal_at, fault_of_edge}

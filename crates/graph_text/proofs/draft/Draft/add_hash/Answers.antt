@@ -1,4 +1,4 @@
-use Rattle.std.proofs.Common.{◌≡◌, ◌<◌, List, Some, not, ◌&&◌, sym, ap, subst, ◌∙◌, refl, drop}
+use Rattle.std.proofs.Common.{◌<◌, List, Some, sym, ap, subst, ◌∙◌, refl, drop}
 use Rattle.std.specs.Bool.{then_some}
 use Rattle.std.specs.Option.{option_or, option_to_list}
 use Rattle.std.specs.List.{All}

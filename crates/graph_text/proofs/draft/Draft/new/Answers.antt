@@ -1,4 +1,4 @@
-use Rattle.std.proofs.Common.{refl}
+use Rattle.std.proofs.Common.{refl, arith}
 use Rattle.graph_text.proofs.draft.Draft.new.Goals as goal
 
 pub returns : goal.returns
@@ -6,7 +6,7 @@ returns c = record {
   mode_is = refl;
   filled = refl;
   last = refl;
-  in_order = λ n e. let impossible : ⊥ = cc in absurd impossible;
+  rising = λ i j d less within. absurd (omega arith);
   later = refl;
   refusal_is = refl;
   graph_is = λ none. c.new.ensures c.args.mode;

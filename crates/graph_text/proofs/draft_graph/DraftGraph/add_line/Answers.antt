@@ -1,6 +1,5 @@
-use Rattle.std.proofs.Common.{◌≡◌, ℕ, ◌+◌, ◌≤◌, ◌<◌, List, ◌∷◌, ◌++◌, [], map, length, Option, Some, None, sym, ap, ◌∙◌, arith}
+use Rattle.std.proofs.Common.{◌≡◌, ℕ, ◌≤◌, List, ◌∷◌, ◌++◌, [], map, length, Option, None, sym, ap, ◌∙◌, arith}
 use Rattle.std.specs.Borrow.{Bor}
-use Rattle.std.proofs.lemmas.List.{length-map}
 use Rattle.graph_text.proofs.EdgeFields.{two-at-least, field-at, ends-are, range-of}
 use Rattle.std.proofs.lemmas.Result.{IfOk-weaker}
 use Rattle.graph_text.specs.Lines.{fields_of}
@@ -34,10 +33,10 @@ returns-in-Ok-clause-added c =
     let tail = c.index.result.now.now in
     let head = c.index-in-Ok.result.now.now in
     let Adds : Option Why → Type 0 = λ fault. (mode : Mode) (edges : List Line) (line : Line) → HoldsEdges mode edges old
-        → ends_of line ≡ tail ∷ head ∷ [] → line.number ≡ c.args.number → range_of mode line ≡ c.in-Ok.range
-        → fault ≡ None → HoldsEdges mode (edges ++ line ∷ []) new in
+    → ends_of line ≡ tail ∷ head ∷ [] → line.number ≡ c.args.number → range_of mode line ≡ c.in-Ok.range
+    → fault ≡ None → HoldsEdges mode (edges ++ line ∷ []) new in
     let AddsLine : Option Why → Type 0 = λ fault. (edges : List Line) (line : Line) → HoldsEdges c.args.mode edges old
-        → ShowsLine c.args.number c.args.is_long c.args.text.now line → fault ≡ None → HoldsEdges c.args.mode (edges ++ line ∷ []) new in
+    → ShowsLine c.args.number c.args.is_long c.args.text.now line → fault ≡ None → HoldsEdges c.args.mode (edges ++ line ∷ []) new in
     IfOk-weaker c.add.result Adds AddsLine
     (λ fault added edges line holds shows none.
     let are : line.fields ≡ fields_of c.args.text.now = shows.fields c.if-is_long.false in

@@ -1,6 +1,3 @@
-use Rattle.std.proofs.Common.{◌≡◌, sym, ap, subst, ◌∙◌}
-use Rattle.std.specs.Prelude.{IsTrue, ◌↔◌}
-use Rattle.graph_text.specs.DraftGraph.{HasEdge}
 use Rattle.graph_text.proofs.DraftGraphs.{HasEdge-numbers}
 use Rattle.graph_text.proofs.draft_graph.DraftGraph.has_edge.Goals as goal
 
