@@ -7,7 +7,11 @@ use Rattle.std.specs.Str.{bytes_eq}
 use Rattle.std.proofs.lemmas.Bool.{true≢false, false≢true, eqb-true, eqb-false, not-true, not-false, false_from_ne_true, or_right}
 use Rattle.std.proofs.lemmas.List.{nil_from_length}
 use Rattle.std.proofs.lemmas.List.Elements.{All-contains}
-use Rattle.dag_net.proofs.Lists.{AllPairs-append}
+use Rattle.std.specs.List.{AllPairs}
+use Rattle.std.proofs.Common.{get_or}
+use Rattle.std.proofs.lemmas.List.Elements.{All-append, Contains-get_or}
+use Rattle.std.proofs.lemmas.List.Kept.{AllPairs-cons}
+use Rattle.dag_net.proofs.Lists.{Contains-head}
 use Rattle.graph_text.proofs.Finishing.{Rises}
 use Rattle.std.proofs.lemmas.List.Folds.{list_any-append}
 use Rattle.std.proofs.lemmas.Slice.Eq.{bytes_eq-Decides}
@@ -74,6 +78,22 @@ later-more lines l later true e h =
     first l (run ∷ runs) (Some n) h = h
 later-more lines l None false e h = h ∙ sym (ap (λ r. numbers_of (take 1 r)) (runs-other lines l e))
 later-more lines l (Some n) false e h = h ∙ sym (ap (λ r. numbers_of (take 1 r)) (runs-other lines l e))
+
+Contains-behind : {X : Type 0} (x : X) (xs : List X) (y : X) → Contains xs y → Contains (x ∷ xs) y
+Contains-behind x xs y (k, within, same) = (suc k, omega arith, same)
+
+-- what holds of each pair of elements of two lists, one behind the other
+AllPairs-append : {X : Type 0} (R : X → X → Type 0) (xs ys : List X) → AllPairs R xs → AllPairs R ys → ((a b : X) → Contains xs a → Contains ys b → R a b) → AllPairs R (xs ++ ys)
+AllPairs-append R [] ys front back cross = back
+AllPairs-append R (x ∷ xs) ys front back cross =
+    AllPairs-cons R x (xs ++ ys)
+    (All-append (R x) xs ys
+    (λ k d within. front 0 (suc k) d (omega arith) (omega arith))
+    (λ k d within. cross x (get_or ys k d) (Contains-head x xs) (Contains-get_or ys k d within)))
+    (AllPairs-append R xs ys
+    (λ i j d before within. front (suc i) (suc j) d (omega arith) (omega arith))
+    back
+    (λ a b first second. cross a b (Contains-behind x xs a first) second))
 
 -- the numbers of lines rise, after one more
 pub rising-more : (lines : List Line) (l : Line) → All (λ k. k.number < l.number) lines → Rises lines → Rises (lines ++ l ∷ [])
