@@ -62,13 +62,13 @@ pub name_in-shown : (line text : List ℕ) (is_long : Bool) (number : ℕ) → S
 name_in-shown line text true number shows same =
     let long : nat_le (length line) 65536 ≡ false = leb_no (length line) 65536 (ltb-true 65536 (length line) shows.long) in
     sym (cond-false (is_hash_line line && (not (is_run_line line) && nat_le (length line) 65536)) _ _
-        (ap (λ b. is_hash_line line && (not (is_run_line line) && b)) long ∙ and_last (is_hash_line line) (not (is_run_line line))))
+    (ap (λ b. is_hash_line line && (not (is_run_line line) && b)) long ∙ and_last (is_hash_line line) (not (is_run_line line))))
 name_in-shown line text false number shows same =
     let short : nat_le (length line) 65536 ≡ true = leb_yes (length line) 65536 (ltb-false 65536 (length line) shows.long) in
     let test : (is_hash_line text && not (is_run_line text)) ≡ (is_hash_line line && (not (is_run_line line) && nat_le (length line) 65536)) =
-        (λ i. sym shows.hash i && not (sym shows.run i))
-        ∙ ap (λ b. is_hash_line line && b) (sym (and_true (not (is_run_line line))))
-        ∙ ap (λ b. is_hash_line line && (not (is_run_line line) && b)) (sym short) in
+    (λ i. sym shows.hash i && not (sym shows.run i))
+    ∙ ap (λ b. is_hash_line line && b) (sym (and_true (not (is_run_line line))))
+    ∙ ap (λ b. is_hash_line line && (not (is_run_line line) && b)) (sym short) in
     let rest : after_blanks text ≡ after_blanks line = ap after_blanks (same refl) ∙ after_blanks-same (after_blanks line) (after_blanks-begins line) in
     λ i. if test i then trimmed (drop 1 (rest i)) else []
 
@@ -133,7 +133,7 @@ pub block-is : (cutter : Cutter) (left : Progress) (lines : List (List ℕ)) (bl
     cutter.blocks ≡ left.blocks → cutter.line ≡ left.line → cutter.ended ≡ length left.ended →
     HoldsBlock cutter (left.line - length left.ended) lines → list_all is_blank_line lines ≡ false →
     ((ls : List (List ℕ)) → HoldsBlock cutter (cutter.line - cutter.ended) ls → list_all is_blank_line ls ≡ false →
-        block ≡ handed cutter.mode (record { index = cutter.blocks + 1; line = cutter.line - cutter.ended; lines = ls })) →
+    block ≡ handed cutter.mode (record { index = cutter.blocks + 1; line = cutter.line - cutter.ended; lines = ls })) →
     block ≡ handed cutter.mode (block_in left lines)
 block-is cutter left lines block blocks line ended holds filled hands =
     let index : cutter.blocks + 1 ≡ left.blocks + 1 = omega arith in
@@ -168,9 +168,9 @@ no_feed (b ∷ bytes) =
     cases (is_feed b) (list_any is_feed (take (position_or_len is_feed (b ∷ bytes)) (b ∷ bytes)) ≡ false)
     (λ yes. ap (λ n. list_any is_feed (take n (b ∷ bytes))) (cond-false (not (is_feed b)) _ _ (ap not yes)))
     (λ other.
-        let longer : 1 + position_or_len is_feed bytes ≡ suc (position_or_len is_feed bytes) = omega arith in
-        ap (λ n. list_any is_feed (take n (b ∷ bytes))) (cond-true (not (is_feed b)) _ _ (ap not other) ∙ longer)
-        ∙ ap (λ t. t || list_any is_feed (take (position_or_len is_feed bytes) bytes)) other ∙ no_feed bytes)
+    let longer : 1 + position_or_len is_feed bytes ≡ suc (position_or_len is_feed bytes) = omega arith in
+    ap (λ n. list_any is_feed (take n (b ∷ bytes))) (cond-true (not (is_feed b)) _ _ (ap not other) ∙ longer)
+    ∙ ap (λ t. t || list_any is_feed (take (position_or_len is_feed bytes) bytes)) other ∙ no_feed bytes)
 
 pub feed-there : (bytes : List ℕ) → position_or_len is_feed bytes < length bytes → get_or bytes (position_or_len is_feed bytes) 0 ≡ 10
 feed-there [] there = absurd (omega arith)
@@ -178,8 +178,8 @@ feed-there (b ∷ bytes) there =
     cases (is_feed b) (get_or (b ∷ bytes) (position_or_len is_feed (b ∷ bytes)) 0 ≡ 10)
     (λ yes. ap (λ n. get_or (b ∷ bytes) n 0) (cond-false (not (is_feed b)) _ _ (ap not yes)) ∙ eqb-true b 10 yes)
     (λ other.
-        let longer : position_or_len is_feed (b ∷ bytes) ≡ suc (position_or_len is_feed bytes) = cond-true (not (is_feed b)) _ _ (ap not other) ∙ omega arith in
-        ap (λ n. get_or (b ∷ bytes) n 0) longer ∙ feed-there bytes (omega arith))
+    let longer : position_or_len is_feed (b ∷ bytes) ≡ suc (position_or_len is_feed bytes) = cond-true (not (is_feed b)) _ _ (ap not other) ∙ omega arith in
+    ap (λ n. get_or (b ∷ bytes) n 0) longer ∙ feed-there bytes (omega arith))
 
 -- the bytes up to the first line feed complete no block
 pub IsQuiet-front : (bytes rest : List ℕ) (n : ℕ) → NoMark (left_by bytes) rest → list_any is_feed (take n rest) ≡ false → IsQuiet (left_by bytes) (take n rest)
@@ -188,8 +188,8 @@ IsQuiet-front bytes rest n none feeds =
     let span = take n rest in
     cases (list_any is_content_line left.ended) (IsQuiet left span)
     (λ filled. cases (list_all is_blank left.open_line) (IsQuiet left span)
-        (λ blank. IsQuiet-hashless left span (IsLeft-left_by bytes) (has_hash-take n rest (hash-after rest ∙ none ((λ i. blank i && filled i)))) feeds)
-        (λ begun. IsQuiet-begun left span (IsLeft-left_by bytes) begun feeds))
+    (λ blank. IsQuiet-hashless left span (IsLeft-left_by bytes) (has_hash-take n rest (hash-after rest ∙ none ((λ i. blank i && filled i)))) feeds)
+    (λ begun. IsQuiet-begun left span (IsLeft-left_by bytes) begun feeds))
     (λ unfilled. IsQuiet-unfilled left span unfilled feeds)
 
 pub goes-span : (new : Cutter) (bytes span : List ℕ) → IsQuiet (left_by bytes) span →
@@ -213,7 +213,7 @@ pub goes-both : (new : Cutter) (bytes piece : List ℕ) (a b : ℕ) → complete
     GoesOn new (bytes ++ take a piece) (take b (drop a piece)) → GoesOn new bytes (take (a + b) piece)
 goes-both new bytes piece a b same goes =
     let whole : (bytes ++ take a piece) ++ take b (drop a piece) ≡ bytes ++ take (a + b) piece =
-        append_assoc bytes (take a piece) (take b (drop a piece)) ∙ ap (λ l. bytes ++ l) (sym (take-add a b piece)) in
+    append_assoc bytes (take a piece) (take b (drop a piece)) ∙ ap (λ l. bytes ++ l) (sym (take-add a b piece)) in
     record {
       holds = subst (λ t. Holds new (left_by t)) whole goes.holds;
       same = ap complete (sym whole) ∙ goes.same ∙ same;
@@ -289,10 +289,10 @@ Cuts-block old mid new bytes piece mark taken block goes mode may is_mark hands 
     let blanks = take_while is_blank rest in
     let blank = all_blank rest in
     let whole : before ++ (blanks ++ 35 ∷ []) ≡ bytes ++ take (taken + length mark) piece =
-        ap (λ l. before ++ l) (sym is_mark.hash ∙ sym is_mark.front) ∙ append_assoc bytes (take taken piece) (take (length mark) rest) ∙ ap (λ l. bytes ++ l) (sym (take-add taken (length mark) piece)) in
+    ap (λ l. before ++ l) (sym is_mark.hash ∙ sym is_mark.front) ∙ append_assoc bytes (take taken piece) (take (length mark) rest) ∙ ap (λ l. bytes ++ l) (sym (take-add taken (length mark) piece)) in
     let front : bytes ++ take (taken + length blanks) piece ≡ before ++ blanks =
-        ap (λ l. bytes ++ l) (take-add taken (length blanks) piece) ∙ sym (append_assoc bytes (take taken piece) (take (length blanks) rest))
-        ∙ ap (λ n. before ++ take n rest) (length-prefix_len is_blank rest) in
+    ap (λ l. bytes ++ l) (take-add taken (length blanks) piece) ∙ sym (append_assoc bytes (take taken piece) (take (length blanks) rest))
+    ∙ ap (λ n. before ++ take n rest) (length-prefix_len is_blank rest) in
     let quiet = complete-span before blanks (IsQuiet-blank (left_by before) blanks (IsLeft-left_by before) blank) in
     let longer : length mark ≡ length blanks + 1 = ap length is_mark.hash ∙ length-append blanks (35 ∷ []) in
     record {

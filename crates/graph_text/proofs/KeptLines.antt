@@ -1,8 +1,8 @@
 -- What is kept of a line in progress, and what it shows of the line.
-use Rattle.std.specs.Prelude.{◌≡◌, ℕ, ◌+◌, ◌-◌, ◌<◌, ◌≤◌, ◌^◌, ◌==◌, List, [], ◌∷◌, ◌++◌, length, take, drop, min, Bool, true, false, ◌≢◌, not, ◌&&◌, ◌||◌, if◌then◌else◌, zero, suc, refl, nat_lt}
+use Rattle.std.specs.Prelude.{◌≡◌, ℕ, ◌+◌, ◌-◌, ◌<◌, ◌≤◌, ◌^◌, ◌==◌, List, [], ◌∷◌, ◌++◌, length, take, drop, min, Bool, true, false, ◌≢◌, ◌&&◌, ◌||◌, if◌then◌else◌, zero, suc, refl, nat_lt}
 use Rattle.std.specs.List.{list_all, list_any, prefix_len, take_while}
 use Rattle.std.specs.Str.{bytes_eq}
-use Rattle.std.proofs.Common.{sym, ◌∙◌, ap, arith, true≢false, add-one, length-append, ne_eqb, eq-eqb, get_or, append-nil, ◌⊎◌, inl, inr, length-drop, subst}
+use Rattle.std.proofs.Common.{sym, ◌∙◌, ap, arith, true≢false, ne_eqb, eq-eqb, get_or, append-nil, ◌⊎◌, inl, inr, length-drop, subst}
 use Rattle.std.proofs.lemmas.Bool.{cond-true, cond-false, lt-ltb, ltb-false, cases_lt}
 use Rattle.std.proofs.lemmas.List.{take_all, take_min}
 use Rattle.std.proofs.lemmas.Bool.Decides.{nat_tests}
@@ -61,10 +61,10 @@ pub after_blanks-append : (bytes more : List ℕ) → after_blanks (bytes ++ mor
 after_blanks-append bytes more =
     cases (list_all is_blank bytes) (after_blanks (bytes ++ more) ≡ after_blanks bytes ++ (if list_all is_blank bytes then after_blanks more else more))
     (λ yes. after_blanks-blank bytes more yes
-        ∙ ap (λ l. l ++ after_blanks more) (sym (ap after_blanks (sym (append-nil bytes)) ∙ after_blanks-blank bytes [] yes))
-        ∙ ap (λ l. after_blanks bytes ++ l) (sym (cond-true (list_all is_blank bytes) (after_blanks more) more yes)))
+    ∙ ap (λ l. l ++ after_blanks more) (sym (ap after_blanks (sym (append-nil bytes)) ∙ after_blanks-blank bytes [] yes))
+    ∙ ap (λ l. after_blanks bytes ++ l) (sym (cond-true (list_all is_blank bytes) (after_blanks more) more yes)))
     (λ filled. after_blanks-more bytes more filled
-        ∙ ap (λ l. after_blanks bytes ++ l) (sym (cond-false (list_all is_blank bytes) (after_blanks more) more filled)))
+    ∙ ap (λ l. after_blanks bytes ++ l) (sym (cond-false (list_all is_blank bytes) (after_blanks more) more filled)))
 
 -- whether all bytes are blanks
 pub after_blanks-empty : (bytes : List ℕ) → (length (after_blanks bytes) == 0) ≡ list_all is_blank bytes
@@ -243,9 +243,9 @@ length-after_blanks bytes = omega (arith, length-drop (length (take (prefix_len 
 -- whether a line of w bytes is too long, where n bytes and perhaps a carriage return are counted, and k bytes kept, m without it
 long-same : (n w k m : ℕ) → IsShorter m k → IsShorter w n → (n + m ≡ w + k) ⊎ (most_kept < n) → nat_lt 65536 w ≡ nat_lt (65536 + (k - m)) (min n (2 ^ 64 - 1))
 long-same n w k m text line h = elim h [
-    inl same ↦ grind (arith, nat_tests)
-    | inr long ↦ lt-ltb 65536 w (omega arith) ∙ sym (lt-ltb (65536 + (k - m)) (min n (2 ^ 64 - 1)) (omega arith))
-  ]
+  | inl same ↦ grind (arith, nat_tests)
+  | inr long ↦ lt-ltb 65536 w (omega arith) ∙ sym (lt-ltb (65536 + (k - m)) (min n (2 ^ 64 - 1)) (omega arith))
+]
 
 pub after_blanks-same : (bytes : List ℕ) → BeginsFilled bytes → after_blanks bytes ≡ bytes
 after_blanks-same [] begins = refl
@@ -263,9 +263,9 @@ kept bytes = take most_kept (after_blanks bytes)
 -- what is kept has the kind of the line
 kind-kept : (bytes : List ℕ) → SameKind (without_return bytes) (without_return (kept bytes))
 kind-kept bytes = elim (cases_lt most_kept (length (after_blanks bytes))) [
-    inl cut ↦ kind_same bytes (without_return (kept bytes)) (cut_kind (after_blanks bytes) (after_blanks-begins bytes) cut)
-    | inr whole ↦ kind_same bytes (without_return (kept bytes)) (kind_refl (ap without_return (sym (take_all most_kept (after_blanks bytes) whole))))
-  ]
+  | inl cut ↦ kind_same bytes (without_return (kept bytes)) (cut_kind (after_blanks bytes) (after_blanks-begins bytes) cut)
+  | inr whole ↦ kind_same bytes (without_return (kept bytes)) (kind_refl (ap without_return (sym (take_all most_kept (after_blanks bytes) whole))))
+]
 
 -- whether the line is too long, as the reader tells it
 abbrev pub is_long : List ℕ → Bool
@@ -278,9 +278,9 @@ long-kept bytes =
     let line = length-without_return bytes in
     let text = length-without_return (kept bytes) in
     long-same (length bytes) (length (without_return bytes)) k m text line (elim (cases_lt most_kept (length (after_blanks bytes))) [
-        inl cut ↦ inr (omega (arith, length-after_blanks bytes))
-        | inr whole ↦ inl (rw (take_all most_kept (after_blanks bytes) whole) (length-kept bytes))
-      ])
+      | inl cut ↦ inr (omega (arith, length-after_blanks bytes))
+      | inr whole ↦ inl (rw (take_all most_kept (after_blanks bytes) whole) (length-kept bytes))
+    ])
 
 -- a line that is not too long is kept
 pub text-kept : (bytes : List ℕ) → is_long bytes ≡ false → without_return (kept bytes) ≡ after_blanks (without_return bytes)

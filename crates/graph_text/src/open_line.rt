@@ -100,8 +100,7 @@ impl OpenLine {
         let room = MOST_KEPT.saturating_sub(self.text.len());
         self.length = self.length.saturating_add(span.len());
         let begun = begun(span, self.text.is_empty());
-        self.text
-            .extend_from_slice(&begun[..room.min(begun.len())])
+        self.text.extend_from_slice(&begun[..room.min(begun.len())])
     }
 
     /// Begins the next line.

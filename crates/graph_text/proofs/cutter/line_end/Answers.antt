@@ -10,9 +10,9 @@ use Rattle.graph_text.proofs.cutter.line_end.Goals as goal
 
 or_end : (place n : ℕ) → place ≤ n → unwrap_or (cond (ltb place n) (Some place) None) n ≡ place
 or_end place n within = elim (cases_lt place n) [
-    inl here ↦ ap (λ o. unwrap_or o n) (cond-true (ltb place n) (Some place) None (lt-ltb place n here))
-    | inr past ↦ ap (λ o. unwrap_or o n) (cond-false (ltb place n) (Some place) None (le-ltb place n past)) ∙ omega arith
-  ]
+  | inl here ↦ ap (λ o. unwrap_or o n) (cond-true (ltb place n) (Some place) None (lt-ltb place n here))
+  | inr past ↦ ap (λ o. unwrap_or o n) (cond-false (ltb place n) (Some place) None (le-ltb place n past)) ∙ omega arith
+]
 
 place : (c : goal.After-unwrap_or) → c.unwrap_or.result ≡ position_or_len is_feed c.args.bytes.now
 place c =

@@ -8,6 +8,6 @@ returns-then-bytes-n-eq13-clause-value c = sym (return-last c.args.bytes.now (om
 
 pub returns-else-n-gt0-clause-value : goal.returns-else-n-gt0-clause-value
 returns-else-n-gt0-clause-value c = sym (return-none c.args.bytes.now (elim c.else-n-gt0.branch [
-    else-n-gt0-via-then-n-gt0+else-bytes-n-eq13 w ↦ w.if-bytes-n-eq13.false
-    | else-n-gt0-via-else-n-gt0 w ↦ return_less c.args.bytes.now (omega arith)
-  ]))
+  | else-n-gt0-via-then-n-gt0+else-bytes-n-eq13 w ↦ w.if-bytes-n-eq13.false
+  | else-n-gt0-via-else-n-gt0 w ↦ return_less c.args.bytes.now (omega arith)
+]))

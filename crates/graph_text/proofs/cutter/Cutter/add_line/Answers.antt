@@ -1,4 +1,4 @@
-use Rattle.std.proofs.Common.{◌≡◌, ◌∙◌, sym, subst, ◌-◌, length}
+use Rattle.std.proofs.Common.{◌∙◌, sym, subst, ◌-◌, length}
 use Rattle.graph_text.specs.Draft.{Drafts}
 use Rattle.graph_text.specs.Lines.{without_return}
 use Rattle.graph_text.specs.OpenLine.{HoldsLine}

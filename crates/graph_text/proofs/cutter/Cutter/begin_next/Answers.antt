@@ -1,4 +1,4 @@
-use Rattle.std.proofs.Common.{◌≡◌, ◌∙◌, ◌+◌, ◌-◌, ap, subst, sym, refl}
+use Rattle.std.proofs.Common.{◌∙◌, ◌+◌, ◌-◌, ap, subst, sym, refl}
 use Rattle.graph_text.specs.OpenLine.{HoldsLine}
 use Rattle.graph_text.proofs.Holding.{block-is, may_complete-lines}
 use Rattle.graph_text.proofs.cutter.Cutter.begin_next.Goals as goal

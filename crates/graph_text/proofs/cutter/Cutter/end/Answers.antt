@@ -1,5 +1,5 @@
-use Rattle.std.proofs.Common.{◌≡◌, ◌∙◌, ◌≤◌, length, arith, subst, sym, inl, inr, true, false, ◌-◌, Some}
-use Rattle.graph_text.specs.Blocks.{is_graph, blocks, complete}
+use Rattle.std.proofs.Common.{◌∙◌, ◌≤◌, length, arith, subst, sym, inl, inr, true, false, ◌-◌, Some}
+use Rattle.graph_text.specs.Blocks.{blocks, complete}
 use Rattle.graph_text.specs.Cutter.{Completes}
 use Rattle.graph_text.specs.Progress.{left_by, with_open}
 use Rattle.graph_text.proofs.Steps.{not_blank-graph}
@@ -16,7 +16,7 @@ returns-in_ok-block-clause-last c = λ bytes held.
     let block = c.in_ok-add_last_line.ensures.adds left held within in
     let graph = graph-is (left.line - length left.ended) lines true (c.if-is_graph.ensures _ _ block.drafts) in
     let hands = block-is new left lines c.in_ok-block.block (kept.blocks_kept ∙ held.blocks_are) (kept.line_kept ∙ held.line_is) (kept.ended_kept ∙ held.ended_are)
-        block (not_blank-graph lines (sym graph)) c.in_ok-block.ensures.block in
+    block (not_blank-graph lines (sym graph)) c.in_ok-block.ensures.block in
     inr (subst (λ m. Completes m (complete bytes) (blocks bytes) (Some c.in_ok-block.block)) kept.mode_kept (Completes-end new.mode bytes c.in_ok-block.block (sym graph) hands))
 
 pub returns-else-is_graph-clause-last : goal.returns-else-is_graph-clause-last

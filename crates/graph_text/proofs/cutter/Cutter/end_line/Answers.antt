@@ -1,6 +1,5 @@
-use Rattle.std.proofs.Common.{◌≡◌, ◌∙◌, sym, subst, ap, ◌+◌, ◌≤◌, length, arith}
+use Rattle.std.proofs.Common.{◌∙◌, ap, ◌+◌, ◌≤◌, length, arith}
 use Rattle.graph_text.specs.Lines.{without_return}
-use Rattle.graph_text.specs.Progress.{with_line}
 use Rattle.graph_text.proofs.Holding.{HoldsBlock-next, added-count}
 use Rattle.graph_text.proofs.cutter.Cutter.end_line.Goals as goal
 

@@ -1,4 +1,4 @@
-use Rattle.std.proofs.Common.{◌∙◌, sym, arith}
+use Rattle.std.proofs.Common.{◌∙◌, arith}
 use Rattle.graph_text.specs.Lines.{without_return}
 use Rattle.graph_text.proofs.Holding.{first_name}
 use Rattle.graph_text.proofs.cutter.Cutter.note_name.Goals as goal

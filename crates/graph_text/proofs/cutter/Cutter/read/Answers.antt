@@ -1,4 +1,4 @@
-use Rattle.std.proofs.Common.{◌≡◌, ◌∙◌, ◌++◌, ◌-◌, ◌≤◌, ap, arith, subst, sym, take, drop, length, length-drop}
+use Rattle.std.proofs.Common.{◌∙◌, ◌++◌, ap, arith, subst, take, length, length-drop}
 use Rattle.std.proofs.lemmas.List.{take_rest}
 use Rattle.graph_text.specs.Cutter.{GoesOn, IsMark}
 use Rattle.graph_text.specs.Progress.{left_by}
@@ -24,11 +24,11 @@ loop-taken-preserved c =
       few_lines = omega (arith, c.in_ok-taken.ensures.line);
       mode_kept = c.take_line.ensures.mode ∙ start.mode_kept;
       goes = λ bytes held.
-        let goes = start.goes bytes held in
-        let before = bytes ++ take c.loop-taken.taken c.args.piece.now in
-        goes-both c.take_line.new.self bytes c.args.piece.now c.loop-taken.taken c.in_ok-taken.field-0 goes.same
-        (subst (λ r. GoesOn c.take_line.new.self before (take c.in_ok-taken.field-0 r)) rest
-        (c.in_ok-taken.ensures.takes before goes.holds (c.in_default.ensures.none (left_by before) goes.holds)));
+          let goes = start.goes bytes held in
+          let before = bytes ++ take c.loop-taken.taken c.args.piece.now in
+          goes-both c.take_line.new.self bytes c.args.piece.now c.loop-taken.taken c.in_ok-taken.field-0 goes.same
+          (subst (λ r. GoesOn c.take_line.new.self before (take c.in_ok-taken.field-0 r)) rest
+          (c.in_ok-taken.ensures.takes before goes.holds (c.in_default.ensures.none (left_by before) goes.holds)));
     }
 
 pub returns-clause-cuts : goal.returns-clause-cuts

@@ -1,4 +1,4 @@
-use Rattle.std.proofs.Common.{◌≡◌, ◌==◌, ◌∙◌, ap, length, arith}
+use Rattle.std.proofs.Common.{◌==◌, ◌∙◌, ap, length, arith}
 use Rattle.graph_text.proofs.KeptLines.{kept-empty}
 use Rattle.graph_text.specs.OpenLine.{most_kept}
 use Rattle.graph_text.proofs.open_line.OpenLine.is_blank.Goals as goal

@@ -1,5 +1,4 @@
-use Rattle.std.proofs.Common.{◌∙◌, ap}
-use Rattle.graph_text.specs.Lines.{without_return}
+use Rattle.std.proofs.Common.{◌∙◌}
 use Rattle.graph_text.proofs.KeptLines.{line-blank}
 use Rattle.graph_text.proofs.open_line.OpenLine.is_blank_line.Goals as goal
 
