@@ -107,6 +107,7 @@ impl DraftGraph {
         self.edge_numbers.push(number)?;
         let u = self.labels.add_vertex(tail)?;
         let v = self.labels.add_vertex(head)?;
+        // It is new, since no edge had these ends.
         let _is_new = self.labels.add_edge(u, v)?;
         Ok(None)
     }
