@@ -6,8 +6,8 @@ use Rattle.std.specs.Prelude.{nat_lt}
 use Rattle.std.specs.Option.{IfSome}
 use Rattle.std.proofs.lemmas.Bool.{cases_Bool, cond-true, cond-false, and_from, and_left, and_right, false_from_ne_true, ne_eqb, eq-eqb, le-leb, cases_lt}
 use Rattle.std.proofs.lemmas.List.{append-nil, drop_all, take_all, drop_more, get_or_default, get_or-take, length-take-le}
-use Rattle.std.proofs.lemmas.List.Elements.{All-cons, All-head, All-tail, All-map, All-filter, filter-append}
-use Rattle.std.proofs.lemmas.List.Kept.{AllPairs-filter}
+use Rattle.std.proofs.lemmas.List.Elements.{All-weaker, All-nil, All-cons, All-head, All-tail, All-map, All-filter, filter-append}
+use Rattle.std.proofs.lemmas.List.Kept.{AllPairs-filter, AllPairs-cons}
 use Rattle.decomposition.specs.declared.Mode.{Mode}
 use Rattle.decomposition.specs.declared.Mode.TheVariants.{Exact}
 use Rattle.decomposition.specs.Graph.{Graph, IsNet, graph_before, edge_count, tail, head, is_inner, below}
@@ -22,13 +22,27 @@ use Rattle.graph_text.specs.declared.refusal.Why.TheVariants.{LongLine, BadCount
 use Rattle.graph_text.specs.declared.refusal.Refusal.{Refusal}
 use Rattle.graph_text.specs.declared.block.RawGraph.{RawGraph}
 use Rattle.graph_text.specs.Draft.{settled_refusals}
-use Rattle.graph_text.specs.Reading.{Line, most_edges, filled_lines, content_lines, count_lines, edge_lines, long_lines, last_filled, is_count, weights_of, last_fields, is_weight, range_of, refused, bad_counts, bad_fields, bad_weights, bad_ranges, repeats, line_refusals, earlier, earliest, or_else, lines_where, closes_cycle, cycle_lines, is_unbalanced, unconserved_lines, lines_naming, most_bytes}
+use Rattle.graph_text.specs.Reading.{Line, line_at, numbered_lines, most_edges, filled_lines, content_lines, count_lines, edge_lines, long_lines, last_filled, is_count, weights_of, last_fields, is_weight, range_of, refused, bad_counts, bad_fields, bad_weights, bad_ranges, repeats, line_refusals, earlier, earliest, or_else, lines_where, closes_cycle, cycle_lines, is_unbalanced, unconserved_lines, lines_naming, most_bytes}
 use Rattle.graph_text.specs.Lines.{are_no_fields, are_hash_fields}
 use Rattle.graph_text.proofs.Earliest.{merge, earliest-append, earliest-All}
 
 -- the numbers of lines rise
 abbrev pub Rises : List Line → Type 0
 Rises lines = AllPairs (λ a b. a.number ≤ b.number) lines
+
+-- the numbers of the lines of a block rise, from its first one on
+numbered_lines-low : (n : ℕ) (lines : List (List ℕ)) → All (λ l. n ≤ l.number) (numbered_lines n lines)
+numbered_lines-low n [] = All-nil (λ (l : Line). n ≤ l.number)
+numbered_lines-low n (line ∷ lines) =
+    All-cons (λ l. n ≤ l.number) (line_at (n, line)) (numbered_lines (n + 1) lines) (omega arith)
+    (All-weaker (λ (l : Line). n + 1 ≤ l.number) (λ l. n ≤ l.number) (λ l h. omega (arith, h)) (numbered_lines (n + 1) lines) (numbered_lines-low (n + 1) lines))
+
+pub numbered_lines-rise : (n : ℕ) (lines : List (List ℕ)) → Rises (numbered_lines n lines)
+numbered_lines-rise n [] = λ i j d less within. absurd (omega (arith, within))
+numbered_lines-rise n (line ∷ lines) =
+    AllPairs-cons (λ a b. a.number ≤ b.number) (line_at (n, line)) (numbered_lines (n + 1) lines)
+    (All-weaker (λ (l : Line). n + 1 ≤ l.number) (λ l. n ≤ l.number) (λ l h. omega (arith, h)) (numbered_lines (n + 1) lines) (numbered_lines-low (n + 1) lines))
+    (numbered_lines-rise (n + 1) lines)
 
 -- With a content line the refusals of all lines are those that stay.
 pub line_refusals-content : (mode : Mode) (lines : List Line) → 0 < length (content_lines lines) → line_refusals mode lines ≡ settled_refusals mode lines

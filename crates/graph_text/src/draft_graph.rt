@@ -1,6 +1,7 @@
 //! The graph of a block while its edge lines come.
 ghost use Rattle.std.specs.Prelude.{◌≡◌, ℕ, ◌<◌, ◌≤◌, ◌*◌, ◌==◌, ◌↔◌, false, List, [], ◌∷◌, ◌++◌, length, take, map, slice_index, vec_len, AllPairs, MatchResult, All, IsTrue, IfOk, None};
 ghost use Rattle.std.specs.List.{list_any};
+ghost use Rattle.std.specs.Vec.{vec_allocator};
 ghost use Rattle.decomposition.specs.declared.Mode.{Mode as Model};
 ghost use Rattle.decomposition.specs.declared.Range.{Range as Bounds};
 ghost use Rattle.decomposition.specs.Graph.{graph_of, IsNet, is_inner};
@@ -63,7 +64,9 @@ impl DraftGraph {
     }
 
     /// The allocator of its lists.
-    pub fn allocator(&self) -> Global {
+    pub fn allocator(&self) -> Global
+        ensures { result ≡ vec_allocator self.now.edge_numbers }
+    {
         *self.edge_numbers.allocator()
     }
 
@@ -104,6 +107,7 @@ impl DraftGraph {
         self.edge_numbers.push(number)?;
         let u = self.labels.add_vertex(tail)?;
         let v = self.labels.add_vertex(head)?;
+        // It is new, since no edge had these ends.
         let _is_new = self.labels.add_edge(u, v)?;
         Ok(None)
     }
