@@ -44,7 +44,8 @@ after_blanks-no_feed bytes h = drop-no_feed (length (take_while is_blank bytes))
 
 trimmed-no_feed : (bytes : List ℕ) → NoFeed bytes → NoFeed (trimmed bytes)
 trimmed-no_feed bytes h =
-    reverse-no_feed _ (after_blanks-no_feed (reverse (after_blanks bytes)) (reverse-no_feed _ (after_blanks-no_feed bytes h)))
+    reverse-no_feed (after_blanks (reverse (after_blanks bytes)))
+    (after_blanks-no_feed (reverse (after_blanks bytes)) (reverse-no_feed (after_blanks bytes) (after_blanks-no_feed bytes h)))
 
 -- what stands behind the first blanks begins with no blank, and ends as before
 after_blanks-begins : (bytes : List ℕ) → begins_blank (after_blanks bytes) ≡ false
