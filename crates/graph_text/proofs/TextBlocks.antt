@@ -1,7 +1,7 @@
 -- The blocks of a text: their numbers count from 1, and no line of them has a line feed.
-use Rattle.std.specs.Prelude.{◌≡◌, ℕ, ◌+◌, ◌≤◌, ◌==◌, List, [], ◌∷◌, ◌++◌, length, drop, map, false, ◌&&◌, ◌||◌, not, Bool, All, refl}
+use Rattle.std.specs.Prelude.{◌≡◌, ℕ, ◌+◌, ◌≤◌, ◌==◌, List, [], ◌∷◌, ◌++◌, length, drop, false, ◌&&◌, ◌||◌, not, Bool, All, refl}
 use Rattle.std.specs.List.{list_any}
-use Rattle.std.proofs.Common.{subst, sym, arith}
+use Rattle.std.proofs.Common.{sym, arith}
 use Rattle.std.proofs.lemmas.Bool.{cond_both, or_parts, or_from}
 use Rattle.std.proofs.lemmas.List.Elements.{All-nil, All-cons, All-head, All-tail, All-map, All-weaker, All-drop, All-contains, All-same, Contains-push}
 use Rattle.graph_text.specs.Lines.{spelled_lines, onto_first, without_return, lines_of, is_hash_line, is_content_line}

@@ -1,7 +1,7 @@
 -- The name of a block of a text may stand in a report.
-use Rattle.std.specs.Prelude.{◌≡◌, ℕ, ◌==◌, List, [], ◌∷◌, not, ◌&&◌, IsTrue, refl}
+use Rattle.std.specs.Prelude.{◌≡◌, ℕ, ◌==◌, List, [], ◌∷◌, not, IsTrue, refl}
 use Rattle.std.specs.List.{list_any}
-use Rattle.std.proofs.Common.{sym, ◌∙◌}
+use Rattle.std.proofs.Common.{◌∙◌}
 use Rattle.std.proofs.lemmas.Bool.{and_from, not_from_false}
 use Rattle.graph_text.specs.Blocks.{TextBlock, IsTextBlock, name_of}
 use Rattle.graph_text.proofs.BlockNames.{IsTrimmed, name_of-trimmed}
