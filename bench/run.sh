@@ -44,13 +44,15 @@ whole() {
 echo "(a) comment and blank lines"
 python3 "$here/generate.py" comments $((1000000000 / divisor)) >"$folder/input"
 cat "$folder/input" >/dev/null
-read -r lines_time _ <<<"$(python3 "$here/measure.py" 0 "$folder/input" "$folder/count" wc -l)"
+taken=$(python3 "$here/measure.py" 0 "$folder/input" "$folder/count" wc -l)
+read -r lines_time _ <<<"$taken"
 row "comments" "$folder/input" 0 0
 if [ -s "$folder/report" ]; then
     echo "bench: a text without a graph has a report" >&2
     exit 1
 fi
-read -r seconds _ <<<"$(python3 "$here/measure.py" 0 "$folder/input" "$folder/report" "$program")"
+taken=$(python3 "$here/measure.py" 0 "$folder/input" "$folder/report" "$program")
+read -r seconds _ <<<"$taken"
 python3 -c "import sys; a, b = map(float, sys.argv[1:]); print(f'wc -l: {b:.3f} s, the program once more: {a:.3f} s, {a / max(b, 0.001):.1f} times')" "$seconds" "$lines_time"
 
 echo "(b) small graphs"
