@@ -3,7 +3,8 @@
     measure.py STATUS INPUT OUTPUT COMMAND WORD..
 
 The command reads the file INPUT and writes the file OUTPUT. It must end with STATUS. One line is printed: wall seconds and
-peak memory in kilobytes. The peak is what the system notes of the program itself (VmHWM), looked at every two milliseconds.
+peak memory in kilobytes. The peak is what the system notes of the program itself (VmHWM), looked at every two milliseconds, so
+that of a run of a few milliseconds may be too low.
 """
 import re
 import subprocess
