@@ -1,1 +1,7 @@
 pub mod Reports
+pub mod Handed
+pub mod Waiting
+pub mod Underways
+pub mod Inputs
+pub mod Decomposed
+pub mod Accounts

@@ -57,7 +57,7 @@ first-more s blocks others text h = (length blocks, subst (λ l. IsOutput s l te
 
 -- nothing was written yet
 pub Wrote-nothing : (s : Settings) (told : Option (List ℕ)) → Wrote s [] (status_of []) told told
-Wrote-nothing s told = ([], ([], (refl, refl)), Adds-nothing told)
+Wrote-nothing s told = ([], ([], refl, refl), Adds-nothing told)
 
 -- one report more
 pub Wrote-more : (s : Settings) (shown : List TextBlock) (status after : Status) (before old new : Option (List ℕ)) (block : TextBlock) (report : Report) (piece : List ℕ) →
@@ -68,7 +68,7 @@ Wrote-more s shown status after before old new block report piece wrote is_repor
     let text = wrote.0 in
     let reports = wrote.1.0 in (
       text ++ piece,
-      (reports ++ report ∷ [], (reports-more s shown reports text block report piece wrote.1.1 is_report, then_status reports wrote.1.2)),
+      (reports ++ report ∷ [], reports-more s shown reports text block report piece wrote.1.1 is_report, then_status reports wrote.1.2),
       Adds-then before old new text piece wrote.2 adds,
     )
 

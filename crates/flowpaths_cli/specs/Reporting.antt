@@ -1,15 +1,16 @@
 -- How far a run has come: what it took of its input, and what it wrote.
-use Rattle.std.specs.Prelude.{◌≡◌, ◌⊎◌, ◌^◌, ℕ, ◌≤◌, ◌<◌, List, [], ◌∷◌, ◌++◌, length, ◌==◌, All, false, Option, Some, None}
-use Rattle.std.specs.List.{list_any}
+use Rattle.std.specs.Prelude.{◌≡◌, ◌⊎◌, ◌^◌, ℕ, ◌≤◌, ◌<◌, List, [], ◌∷◌, ◌++◌, length, false, Option, Some, None, Result, Ok, Err}
 use Rattle.flow_io.specs.Outside.{Selected, Adds, Took}
 use Rattle.flow_io.specs.declared.status.Status.{Status}
-use Rattle.flow_io.specs.declared.status.Status.TheVariants.{Fault, Memory, Long}
-use Rattle.graph_text.specs.Blocks.{TextBlock, blocks, complete}
+use Rattle.flow_io.specs.declared.status.Status.TheVariants.{Words, Fault, Memory, Long}
+use Rattle.graph_text.specs.Blocks.{TextBlock, IsTextBlock, blocks, complete}
 use Rattle.graph_text.specs.Reader.{StandsFor, handed, mode_of, waiting_of, has_failed, has_finished}
 use Rattle.graph_text.specs.declared.block.Block.{Block}
 use Rattle.graph_text.specs.declared.reader.BlockReader.{BlockReader}
 use Rattle.decomposition.specs.declared.Mode.{Mode}
 use Rattle.flowpaths_cli.specs.declared.settings.Settings.{Settings}
+use Rattle.flowpaths_cli.specs.declared.stop.Stop.{Stop}
+use Rattle.flowpaths_cli.specs.declared.stop.Stop.TheVariants.{Memory as OutOfMemory, Fault as Failed}
 use Rattle.flowpaths_cli.specs.Run.{IsDone, IsOutput, IsOutputWith, IsFirstOutput, BeginsOutput}
 
 -- nothing is left of the selected input, where the selection is told
@@ -43,12 +44,6 @@ pub record Underway (s : Settings) (reader : BlockReader) (bytes : List ℕ) (st
   pub mode_is : mode_of reader ≡ s.mode
   pub wrote : Wrote s (complete bytes) status before now
 
--- a block of a text: its numbers count from 1, and no line of it has a line feed
-pub record IsTextBlock (block : TextBlock) : Type 0 where
-  pub index_from : 1 ≤ block.index
-  pub line_from : 1 ≤ block.line
-  pub no_feeds : All (λ line. list_any (λ b. b == 10) line ≡ false) block.lines
-
 -- the block is handed out for a block of a text
 pub record IsHandedFor (mode : Mode) (block : TextBlock) (handed_out : Block) : Type 0 where
   pub is_block : IsTextBlock block
@@ -69,8 +64,15 @@ pub record EndsRight (s : Settings) (status : Status) (first last : Option (Opti
   pub bytes : List ℕ
   pub took : Took first last bytes
   pub most : length bytes ≤ 2 ^ 30
+  pub not_words : status ≡ Words → ⊥
   pub done : IsDone status → IsAtEnd last × (length bytes < 2 ^ 30) × Wrote s (blocks bytes) status before now
   pub long : status ≡ Long → (length bytes ≡ 2 ^ 30) × WroteAll s (complete bytes) before now
   pub fault : status ≡ Fault → WroteBeginning s (complete bytes) before now ⊎ (IsAtEnd last × WroteBeginning s (blocks bytes) before now)
   pub written : status ≡ Fault → (out_rose → ⊥) → WroteAll s (complete bytes) before now
   pub memory : status ≡ Memory → WroteFirst s (complete bytes) before now ⊎ (IsAtEnd last × WroteFirst s (blocks bytes) before now)
+
+-- the status of a run that ended so
+abbrev pub status_at : Result Status Stop → Status
+status_at (Ok status) = status
+status_at (Err OutOfMemory) = Memory
+status_at (Err Failed) = Fault

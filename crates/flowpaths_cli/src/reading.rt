@@ -1,22 +1,31 @@
 //! The reading of an input, piece by piece, to its end or to its limit.
-ghost use Rattle.std.specs.Prelude.{◌≡◌, ◌⊎◌, ◌≤◌, ◌<◌, ◌^◌, List, ℕ, length, Option};
+ghost use Rattle.std.specs.Prelude.{◌≡◌, ◌⊎◌, List, ℕ};
 ghost use Rattle.decomposition.specs.declared.Mode.TheVariants.{Exact};
-ghost use Rattle.flow_io.specs.Outside.{Rose, Took};
-ghost use Rattle.graph_text.specs.Blocks.{blocks, complete};
-ghost use Rattle.flowpaths_cli.specs.Reporting.{IsAtEnd, Wrote, WroteFirst, WroteBeginning, EndsRight};
+ghost use Rattle.flow_io.specs.Outside.{Rose};
+ghost use Rattle.flowpaths_cli.specs.Reporting.{EndsRight, status_at};
 
 use crate::reporting::{report_end, report_piece};
 use crate::settings::Settings;
 use crate::stop::Stop;
 use flow_io::{Inputs, Output, Status};
 use graph_text::BlockReader;
-use std::alloc::{AllocError, Global};
+use std::alloc::Global;
 
 /// The most bytes that are taken of an input.
 const MOST: usize = 1 << 30;
 
 /// How many bytes are asked for at once.
 const ROOM: usize = 1 << 16;
+
+/// The status of a run that ended so.
+fn status_at(outcome: Result<Status, Stop>) -> Status
+    ensures { result ≡ status_at outcome }
+{
+    match outcome {
+        Ok(status) => status,
+        Err(stop) => stop.status(),
+    }
+}
 
 /// Reads the selected input to its end, and reports each of its blocks as it comes.
 pub fn report_input<I: Inputs, O: Output>(
@@ -35,23 +44,19 @@ pub fn report_input<I: Inputs, O: Output>(
     let Ok(mut reader) = BlockReader::new(alloc, settings.mode) else {
         return Status::Memory;
     };
-    let Ok(mut buffer) = vec![in alloc; 0u8; ROOM] else {
-        return Status::Memory;
-    };
+    let mut buffer = [0; ROOM];
     let mut status = Status::Clean;
     let mut total = 0;
     while total < MOST {
         let room = (MOST - total).min(ROOM);
-        let Ok(count) = inputs.read(&mut buffer[..room]) else {
+        let piece = &mut buffer[..room];
+        let Ok(count) = inputs.read(piece) else {
             return Status::Fault;
         };
         if count == 0 {
-            return match report_end(alloc, settings, &mut reader, out, status) {
-                Ok(status) => status,
-                Err(stop) => stop.status(),
-            };
+            return status_at(report_end(alloc, settings, &mut reader, out, status));
         }
-        status = match report_piece(alloc, settings, &mut reader, &buffer[..count], out, status) {
+        status = match report_piece(alloc, settings, &mut reader, &piece[..count], out, status) {
             Ok(status) => status,
             Err(stop) => return stop.status(),
         };

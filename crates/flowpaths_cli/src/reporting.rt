@@ -42,6 +42,7 @@ fn answer(
     requires exact { settings.now.mode ≡ Exact }
     requires valid { IfOk body (λ graph. IsInstance settings.now.mode (instance_of graph)) }
     requires fits { IfOk body HasLabels }
+    requires no_runs { IfOk body (λ graph. graph.runs ≡ []) }
     requires numbered { IfErr body (λ refusal. 1 ≤ refusal.line) }
     ensures right { IfOk result (λ found. BodyRight settings.now.mode body found.0) }
     ensures labels { IfOk result (λ found. found.1 ≡ labels_of body) }

@@ -1,0 +1,83 @@
+-- What holds of a block that is handed out for a block of a text.
+use Rattle.std.proofs.Common.{◌≡◌, ◌≤◌, ◌<◌, ◌^◌, ◌&&◌, ℕ, List, [], Option, Some, None, Result, Ok, Err, IsTrue, true, refl, sym, ap, subst, ltb}
+use Rattle.std.specs.Prelude.{IfOk, IfErr, nat_le, nat_lt}
+use Rattle.std.proofs.lemmas.Bool.{and_from, le-leb, lt-ltb}
+use Rattle.decomposition.specs.declared.Mode.{Mode}
+use Rattle.decomposition.specs.declared.Mode.TheVariants.{Exact}
+use Rattle.decomposition.specs.Instance.{IsInstance}
+use Rattle.graph_text.specs.Blocks.{TextBlock, IsTextBlock}
+use Rattle.graph_text.specs.Labels.{LabelLists}
+use Rattle.graph_text.specs.Reader.{handed}
+use Rattle.graph_text.specs.Reading.{read, instance_of, numbered_lines, raw_graph_of, refusal_of, err_or}
+use Rattle.graph_text.specs.declared.block.Block.{Block}
+use Rattle.graph_text.specs.declared.block.RawGraph.{RawGraph}
+use Rattle.graph_text.specs.declared.refusal.Refusal.{Refusal}
+use Rattle.graph_text.proofs.Accepting.{graphs_are_accepted}
+use Rattle.graph_text.proofs.RefusedLines.{refusal-line}
+use Rattle.path_report.specs.ReportText.{is_regular, is_regular_body, is_name, fits}
+use Rattle.path_report.specs.declared.report.Body.{Body}
+use Rattle.path_report.specs.declared.report.Report.{Report}
+use Rattle.path_report.proofs.BlockNames.{is_name-name_of}
+use Rattle.flowpaths_cli.specs.Right.{HasLabels}
+use Rattle.flowpaths_cli.specs.Reporting.{IsHandedFor}
+
+-- what follows from the equation with Ok holds on Ok
+on_ok : (r : Result RawGraph Refusal) (P : RawGraph → Type 0) → ((graph : RawGraph) → r ≡ Ok graph → P graph) → IfOk r P
+on_ok (Ok graph) P holds = holds graph refl
+on_ok (Err refusal) P holds = tt
+
+pub handed-instance : (mode : Mode) (text : TextBlock) (block : Block) → IsHandedFor mode text block → IfOk block.body (λ graph. IsInstance mode (instance_of graph))
+handed-instance mode text block h =
+    let P : Block → Type 0 = λ b. IfOk b.body (λ graph. IsInstance mode (instance_of graph)) in
+    let here : P (handed mode text) = on_ok (read mode text) (λ graph. IsInstance mode (instance_of graph)) (λ graph e. (graphs_are_accepted mode text graph h.is_block.no_feeds e).instance) in
+    subst P h.is_handed here
+
+pub handed-labels : (mode : Mode) (text : TextBlock) (block : Block) → IsHandedFor mode text block → IfOk block.body HasLabels
+handed-labels mode text block h =
+    let P : Block → Type 0 = λ b. IfOk b.body HasLabels in
+    let here : P (handed mode text) = on_ok (read mode text) HasLabels (λ graph e.
+    let accepted = graphs_are_accepted mode text graph h.is_block.no_feeds e in
+    record { edges = accepted.edges; vertices = accepted.vertices }) in
+    subst P h.is_handed here
+
+none_or : (o : Option Refusal) (graph : RawGraph) → graph.runs ≡ [] → IfOk (err_or o graph) (λ g. g.runs ≡ [])
+none_or None graph none = none
+none_or (Some r) graph none = tt
+
+-- no constraint is read yet
+pub handed-no_runs : (mode : Mode) (text : TextBlock) (block : Block) → IsHandedFor mode text block → IfOk block.body (λ graph. graph.runs ≡ [])
+handed-no_runs mode text block h =
+    let P : Block → Type 0 = λ b. IfOk b.body (λ graph. graph.runs ≡ []) in
+    let lines = numbered_lines text.line text.lines in
+    let here : P (handed mode text) = none_or (refusal_of mode lines (raw_graph_of mode lines)) (raw_graph_of mode lines) refl in
+    subst P h.is_handed here
+
+pub handed-refusal : (mode : Mode) (text : TextBlock) (block : Block) → IsHandedFor mode text block → IfErr block.body (λ r. 1 ≤ r.line)
+handed-refusal mode text block h =
+    let P : Block → Type 0 = λ b. IfErr b.body (λ r. 1 ≤ r.line) in
+    let here : P (handed mode text) = refusal-line mode text h.is_block in
+    subst P h.is_handed here
+
+handed-index : (mode : Mode) (text : TextBlock) (block : Block) → IsHandedFor mode text block → 1 ≤ block.index
+handed-index mode text block h =
+    let P : Block → Type 0 = λ b. 1 ≤ b.index in
+    let here : P (handed mode text) = h.is_block.index_from in
+    subst P h.is_handed here
+
+handed-name : (mode : Mode) (text : TextBlock) (block : Block) → IsHandedFor mode text block → IsTrue (is_name block.name)
+handed-name mode text block h =
+    let P : Block → Type 0 = λ b. IsTrue (is_name b.name) in
+    let here : P (handed mode text) = is_name-name_of text h.is_block in
+    subst P h.is_handed here
+
+-- the report on it is regular
+pub handed-regular : (mode : Mode) (text : TextBlock) (block : Block) (labels : LabelLists) (body : Body) → mode ≡ Exact → IsHandedFor mode text block →
+    block.index < 2 ^ 64 → IsTrue (is_regular_body labels body) →
+    IsTrue (is_regular labels (record { index = block.index; name = block.name; mode = mode; body = body }))
+handed-regular mode text block labels body exact h small regular =
+    let P : Mode → Type 0 = λ m. IsTrue (is_regular labels (record { index = block.index; name = block.name; mode = m; body = body })) in
+    let index : IsTrue (nat_le 1 block.index && fits block.index) =
+        and_from (nat_le 1 block.index) (fits block.index) (le-leb 1 block.index (handed-index mode text block h)) (lt-ltb block.index (2 ^ 64) small) in
+    let here : P Exact = and_from (nat_le 1 block.index && fits block.index) (is_name block.name && is_regular_body labels body) index
+        (and_from (is_name block.name) (is_regular_body labels body) (handed-name mode text block h) regular) in
+    subst P (sym exact) here
