@@ -1,5 +1,6 @@
 -- Lists that are equal as far as both go, and lists that begin with or contain others.
-use Rattle.std.proofs.Common.{◌⊎◌, ◌≡◌, ℕ, zero, suc, ◌<◌, refl, sym, ap, ◌∙◌, arith, inl, inr, true, ◌&&◌, ◌||◌, ◌==◌, List, [], ◌∷◌, ◌++◌, length, drop, true≢false, eqb-true, eq-eqb}
+use Rattle.std.proofs.Common.{◌⊎◌, ◌≡◌, ℕ, zero, suc, min, refl, sym, ap, arith, inl, inr, true, ◌&&◌, ◌==◌, nat_eq, List, [], ◌∷◌, ◌++◌, length, take, true≢false, eqb-true, eq-eqb}
+use Rattle.std.specs.Cmp.Lexicographic.{pointwise}
 use Rattle.std.proofs.lemmas.Bool.{and_parts, and_from, or_cases, or_left, or_right}
 use Rattle.decomposition.specs.Graph.{begins_with, contains_run}
 use Rattle.decomposition.proofs.Extremes.{contains_run-begins}
@@ -86,3 +87,12 @@ contains_run-later (x ∷ xs) ys fs h = or_right (begins_with (x ∷ (xs ++ ys))
 
 pub contains_run-self : (fs : List ℕ) → contains_run fs fs ≡ true
 contains_run-self fs = contains_run-begins fs fs (begins_with-self fs)
+
+-- the comparison of the parts that both have
+pub agree-pointwise : (xs ys : List ℕ) (n : ℕ) → n ≡ min (length xs) (length ys) → pointwise nat_eq (take n xs) (take n ys) ≡ agree xs ys
+agree-pointwise [] ys zero count = refl
+agree-pointwise [] ys (suc n) count = absurd (omega arith)
+agree-pointwise (x ∷ xs) [] zero count = refl
+agree-pointwise (x ∷ xs) [] (suc n) count = absurd (omega arith)
+agree-pointwise (x ∷ xs) (y ∷ ys) zero count = absurd (omega arith)
+agree-pointwise (x ∷ xs) (y ∷ ys) (suc n) count = ap (λ b. (x == y) && b) (agree-pointwise xs ys n (omega arith))

@@ -1,12 +1,11 @@
 -- Runs on one path: a run that follows on a walk makes one longer walk with it, and such a walk lies on a path.
 -- The other way round, a run that stands on a path behind the beginning of a walk begins within the walk, where it
 -- goes on as the walk does, or beyond it, and then the walk's end leads to it.
-use Rattle.std.proofs.Common.{◌⊎◌, ◌≡◌, ℕ, zero, suc, ◌<◌, refl, sym, ap, ◌∙◌, arith, inl, inr, true, ◌&&◌, ◌||◌, List, [], ◌∷◌, ◌++◌, length, drop, true≢false, subst, append_assoc, append-nil}
+use Rattle.std.proofs.Common.{◌⊎◌, ◌≡◌, ℕ, zero, suc, ◌<◌, refl, sym, ap, ◌∙◌, arith, inl, inr, true, ◌&&◌, List, [], ◌∷◌, ◌++◌, length, drop, true≢false, subst, append_assoc, append-nil}
 use Rattle.std.proofs.lemmas.Bool.{and_parts, and_from, or_right}
 use Rattle.std.proofs.lemmas.List.{append_cancel_left}
-use Rattle.decomposition.specs.Graph.{Graph, IsNet, tail, head, is_source, is_sink, is_walk_from, walk_end, IsRun, IsPath, begins_with, contains_run, paths, RunsShareAPath}
+use Rattle.decomposition.specs.Graph.{Graph, IsNet, tail, head, is_source, is_sink, is_walk_from, walk_end, IsRun, IsPath, begins_with, contains_run, paths}
 use Rattle.decomposition.specs.Boxes.{may_contain}
-use Rattle.decomposition.specs.Reach.{Reaches, IsBegun}
 use Rattle.decomposition.proofs.Walks.{IsStep, walk-cons, walk-from_step, walk-append, walk-left, walk-right, walk_end-append, paths-has, paths-only}
 use Rattle.decomposition.proofs.Keeps.{begins_with-split, begins_with-append}
 use Rattle.decomposition.proofs.Exchange.{PathParts, path-parts, path-from_parts}
@@ -14,7 +13,7 @@ use Rattle.decomposition.proofs.Extremes.{Around, contains_run-begins, contains_
 use Rattle.decomposition.proofs.Reach.{Onto, to_sink, runs_lie_on_paths}
 use Rattle.subpath_rules.specs.Follows.{agree, Follows}
 use Rattle.subpath_rules.specs.Laws.{MayContainByReach, RunsShareByReach}
-use Rattle.subpath_rules.proofs.Overlaps.{agree-cases, cut, either_first, begins_with-self, begins_with-longer, contains_run-longer, contains_run-later, contains_run-self}
+use Rattle.subpath_rules.proofs.Overlaps.{agree-cases, cut, either_first, begins_with-longer, contains_run-longer, contains_run-later, contains_run-self}
 
 -- a run behind the beginning of a walk follows on it
 pub follows-from_walk : (g : Graph) (e : ℕ) (es rest before : List ℕ) (f : ℕ) (fs after : List ℕ) → is_walk_from g (tail g e) ((e ∷ es) ++ rest) ≡ true
