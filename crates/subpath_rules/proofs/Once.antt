@@ -18,26 +18,26 @@ use Rattle.subpath_rules.specs.Rules.{same_run, distinct_runs}
 pub distinct_runs-push : (rs : List (List ℕ)) (r : List ℕ) → distinct_runs (rs ++ r ∷ []) ≡ cond (list_any (λ x. same_run x r) rs) (distinct_runs rs) (distinct_runs rs ++ r ∷ [])
 distinct_runs-push [] r = refl
 distinct_runs-push (x ∷ xs) r =
-    let others : List ℕ → Bool = λ s. not (same_run x s) in
+    let others : List (List ℕ) → List (List ℕ) = λ l. filter (λ s. not (same_run x s)) l in
     let before : distinct_runs (xs ++ r ∷ []) ≡ cond (list_any (λ y. same_run y r) xs) (distinct_runs xs) (distinct_runs xs ++ r ∷ []) = distinct_runs-push xs r in
     elim (cases_Bool (list_any (λ y. same_run y r) xs)) [
       | inl seen ↦
           let rest : distinct_runs (xs ++ r ∷ []) ≡ distinct_runs xs = rw seen at before in
           elim (cases_Bool (same_run x r)) [
-            | inl same ↦ rw (seen, same) (ap (λ l. x ∷ filter (λ s. not (same_run x s)) l) rest)
-            | inr other ↦ rw (seen, other) (ap (λ l. x ∷ filter (λ s. not (same_run x s)) l) rest)
+            | inl same ↦ rw (seen, same) (ap (λ l. x ∷ others l) rest)
+            | inr other ↦ rw (seen, other) (ap (λ l. x ∷ others l) rest)
           ]
       | inr new ↦
           let rest : distinct_runs (xs ++ r ∷ []) ≡ distinct_runs xs ++ r ∷ [] = rw new at before in
-          let parts : filter (λ s. not (same_run x s)) (distinct_runs (xs ++ r ∷ [])) ≡ filter (λ s. not (same_run x s)) (distinct_runs xs) ++ filter (λ s. not (same_run x s)) (r ∷ [])
-          = ap (filter (λ s. not (same_run x s))) rest ∙ filter-append (λ s. not (same_run x s)) (distinct_runs xs) (r ∷ []) in
+          let parts : others (distinct_runs (xs ++ r ∷ [])) ≡ others (distinct_runs xs) ++ others (r ∷ [])
+          = ap others rest ∙ filter-append (λ s. not (same_run x s)) (distinct_runs xs) (r ∷ []) in
           elim (cases_Bool (same_run x r)) [
             | inl same ↦
-                let parts' = rw same at parts in
-                rw (new, same) (ap (λ l. x ∷ l) (parts' ∙ append-nil (filter (λ s. not (same_run x s)) (distinct_runs xs))))
+                let none = rw same at parts in
+                rw (new, same) (ap (λ l. x ∷ l) (none ∙ append-nil (others (distinct_runs xs))))
             | inr other ↦
-                let parts' = rw other at parts in
-                rw (new, other) (ap (λ l. x ∷ l) parts')
+                let one = rw other at parts in
+                rw (new, other) (ap (λ l. x ∷ l) one)
           ]
     ]
 

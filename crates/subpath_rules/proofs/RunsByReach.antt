@@ -22,16 +22,14 @@ follows-from_walk g e es rest before f fs after walk same =
     elim (cut (e ∷ es) rest before (f ∷ fs) after same) [
       | inl within ↦ inl within
       | inr beyond ↦
-          let zs : List ℕ = beyond.0 in
+          let way : List ℕ = beyond.0 in
           let end : ℕ = walk_end g (tail g e) (e ∷ es) in
-          let regroup : (e ∷ es) ++ rest ≡ (e ∷ es) ++ (zs ++ ((f ∷ fs) ++ after))
-          = same ∙ ap (λ l. l ++ ((f ∷ fs) ++ after)) beyond.1 ∙ append_assoc (e ∷ es) zs ((f ∷ fs) ++ after) in
-          let rest_is : rest ≡ zs ++ ((f ∷ fs) ++ after) = append_cancel_left (e ∷ es) rest (zs ++ ((f ∷ fs) ++ after)) regroup in
-          let on : is_walk_from g (walk_end g (tail g e) (e ∷ es)) (zs ++ ((f ∷ fs) ++ after)) ≡ true
-          = subst (λ l. is_walk_from g (walk_end g (tail g e) (e ∷ es)) l ≡ true) rest_is (walk-right g (tail g e) (e ∷ es) rest walk) in
-          let s : IsStep g (walk_end g (walk_end g (tail g e) (e ∷ es)) zs) f (fs ++ after)
-          = walk-cons g (walk_end g (walk_end g (tail g e) (e ∷ es)) zs) f (fs ++ after) (walk-right g (walk_end g (tail g e) (e ∷ es)) zs ((f ∷ fs) ++ after) on) in
-          inr (record { edges = zs; walk = walk-left g (walk_end g (tail g e) (e ∷ es)) zs ((f ∷ fs) ++ after) on; end = sym s.leaves })
+          let last : List ℕ = (f ∷ fs) ++ after in
+          let regroup : (e ∷ es) ++ rest ≡ (e ∷ es) ++ (way ++ last) = same ∙ ap (λ l. l ++ last) beyond.1 ∙ append_assoc (e ∷ es) way last in
+          let rest_is : rest ≡ way ++ last = append_cancel_left (e ∷ es) rest (way ++ last) regroup in
+          let on : is_walk_from g end (way ++ last) ≡ true = subst (λ l. is_walk_from g end l ≡ true) rest_is (walk-right g (tail g e) (e ∷ es) rest walk) in
+          let s : IsStep g (walk_end g end way) f (fs ++ after) = walk-cons g (walk_end g end way) f (fs ++ after) (walk-right g end way last on) in
+          inr (record { edges = way; walk = walk-left g end way last on; end = sym s.leaves })
     ]
 
 -- a walk that begins with another one and contains a run
@@ -74,10 +72,11 @@ joined-overlap g u (e ∷ es) (suc k) f fs walk run low same =
 pub joined : (g : Graph) (e : ℕ) (es : List ℕ) (f : ℕ) (fs : List ℕ) → IsRun g (e ∷ es) → IsRun g (f ∷ fs) → Follows g (e ∷ es) (f ∷ fs) → Joined g (tail g e) (e ∷ es) (f ∷ fs)
 joined g e es f fs walk run (inl over) = joined-overlap g (tail g e) (e ∷ es) over.0 f fs walk run over.1 over.2
 joined g e es f fs walk run (inr way) =
-    let last : is_walk_from g (walk_end g (walk_end g (tail g e) (e ∷ es)) way.edges) (f ∷ fs) ≡ true = subst (λ v. is_walk_from g v (f ∷ fs) ≡ true) (sym way.end) run in
+    let end : ℕ = walk_end g (tail g e) (e ∷ es) in
+    let last : is_walk_from g (walk_end g end way.edges) (f ∷ fs) ≡ true = subst (λ v. is_walk_from g v (f ∷ fs) ≡ true) (sym way.end) run in
     record {
       rest = way.edges ++ (f ∷ fs);
-      is_walk = walk-append g (tail g e) (e ∷ es) (way.edges ++ (f ∷ fs)) walk (walk-append g (walk_end g (tail g e) (e ∷ es)) way.edges (f ∷ fs) way.walk last);
+      is_walk = walk-append g (tail g e) (e ∷ es) (way.edges ++ (f ∷ fs)) walk (walk-append g end way.edges (f ∷ fs) way.walk last);
       contains = contains_run-later (e ∷ es) (way.edges ++ (f ∷ fs)) (f ∷ fs) (contains_run-later way.edges (f ∷ fs) (f ∷ fs) (contains_run-self (f ∷ fs)));
     }
 
@@ -85,14 +84,14 @@ joined g e es f fs walk run (inr way) =
 pub may-from_joined : (g : Graph) → IsNet g → (e : ℕ) (es : List ℕ) (f : ℕ) (fs : List ℕ) → is_source g (tail g e) ≡ true → Joined g (tail g e) (e ∷ es) (f ∷ fs)
     → may_contain (paths g) (e ∷ es) (f ∷ fs) ≡ true
 may-from_joined g net e es f fs source j =
-    let on : Onto g (walk_end g (tail g e) ((e ∷ es) ++ j.rest)) = to_sink g net (walk_end g (tail g e) ((e ∷ es) ++ j.rest)) in
-    let whole : is_walk_from g (tail g e) (((e ∷ es) ++ j.rest) ++ on.edges) ≡ true = walk-append g (tail g e) ((e ∷ es) ++ j.rest) on.edges j.is_walk on.walk in
-    let sink : is_sink g (walk_end g (tail g e) (((e ∷ es) ++ j.rest) ++ on.edges)) ≡ true
-    = subst (λ v. is_sink g v ≡ true) (sym (walk_end-append g (tail g e) ((e ∷ es) ++ j.rest) on.edges)) on.sink in
-    let path : IsPath g (((e ∷ es) ++ j.rest) ++ on.edges) = path-from_parts g (tail g e) e ((es ++ j.rest) ++ on.edges) source whole sink in
-    paths-has g net (((e ∷ es) ++ j.rest) ++ on.edges) path (λ p. begins_with p (e ∷ es) && contains_run p (f ∷ fs))
-    (and_from (begins_with (((e ∷ es) ++ j.rest) ++ on.edges) (e ∷ es)) (contains_run (((e ∷ es) ++ j.rest) ++ on.edges) (f ∷ fs))
-    (begins_with-longer ((e ∷ es) ++ j.rest) on.edges (e ∷ es) (begins_with-append (e ∷ es) j.rest)) (contains_run-longer ((e ∷ es) ++ j.rest) on.edges f fs j.contains))
+    let both : List ℕ = (e ∷ es) ++ j.rest in
+    let on : Onto g (walk_end g (tail g e) both) = to_sink g net (walk_end g (tail g e) both) in
+    let whole : is_walk_from g (tail g e) (both ++ on.edges) ≡ true = walk-append g (tail g e) both on.edges j.is_walk on.walk in
+    let sink : is_sink g (walk_end g (tail g e) (both ++ on.edges)) ≡ true = subst (λ v. is_sink g v ≡ true) (sym (walk_end-append g (tail g e) both on.edges)) on.sink in
+    let path : IsPath g (both ++ on.edges) = path-from_parts g (tail g e) e ((es ++ j.rest) ++ on.edges) source whole sink in
+    paths-has g net (both ++ on.edges) path (λ p. begins_with p (e ∷ es) && contains_run p (f ∷ fs))
+    (and_from (begins_with (both ++ on.edges) (e ∷ es)) (contains_run (both ++ on.edges) (f ∷ fs))
+    (begins_with-longer both on.edges (e ∷ es) (begins_with-append (e ∷ es) j.rest)) (contains_run-longer both on.edges f fs j.contains))
 
 -- what a walk may contain follows on it
 pub follows-from_may : (g : Graph) (e : ℕ) (es : List ℕ) (f : ℕ) (fs : List ℕ) → may_contain (paths g) (e ∷ es) (f ∷ fs) ≡ true → Follows g (e ∷ es) (f ∷ fs)
@@ -127,23 +126,20 @@ pub share-from_follows : (g : Graph) → IsNet g → (e : ℕ) (es : List ℕ) (
     → (p : List ℕ) × IsPath g p × (contains_run p (e ∷ es) ≡ true) × (contains_run p (f ∷ fs) ≡ true)
 share-from_follows g net e es f fs first second follows =
     let j : Joined g (tail g e) (e ∷ es) (f ∷ fs) = joined g e es f fs first second follows in
-    let on : (xs : List ℕ) × (ys : List ℕ) × IsPath g (xs ++ (((e ∷ es) ++ j.rest) ++ ys)) = runs_lie_on_paths g ((e ∷ es) ++ j.rest) net j.is_walk in
-    let p : List ℕ = on.0 ++ (((e ∷ es) ++ j.rest) ++ on.1) in
-    let has : contains_run (on.0 ++ (((e ∷ es) ++ j.rest) ++ on.1)) ((e ∷ es) ++ j.rest) ≡ true = contains_run-middle on.0 ((e ∷ es) ++ j.rest) on.1 in
-    let around : Around ((e ∷ es) ++ j.rest) (f ∷ fs) = contains_run-split ((e ∷ es) ++ j.rest) (f ∷ fs) j.contains in (
-      on.0 ++ (((e ∷ es) ++ j.rest) ++ on.1),
-      on.2,
-      contains_run-part (on.0 ++ (((e ∷ es) ++ j.rest) ++ on.1)) [] (e ∷ es) j.rest has,
-      contains_run-part (on.0 ++ (((e ∷ es) ++ j.rest) ++ on.1)) around.before (f ∷ fs) around.after (subst (λ r. contains_run (on.0 ++ (((e ∷ es) ++ j.rest) ++ on.1)) r ≡ true) around.is has),
-    )
+    let both : List ℕ = (e ∷ es) ++ j.rest in
+    let on : (xs : List ℕ) × (ys : List ℕ) × IsPath g (xs ++ (both ++ ys)) = runs_lie_on_paths g both net j.is_walk in
+    let p : List ℕ = on.0 ++ (both ++ on.1) in
+    let has : contains_run p both ≡ true = contains_run-middle on.0 both on.1 in
+    let around : Around both (f ∷ fs) = contains_run-split both (f ∷ fs) j.contains in
+    (p, on.2, contains_run-part p [] (e ∷ es) j.rest has, contains_run-part p around.before (f ∷ fs) around.after (subst (λ r. contains_run p r ≡ true) around.is has))
 
 -- of two runs on a walk, the one that stands later follows on the other
-pub follows-on_walk : (g : Graph) (v e : ℕ) (es f_before after : List ℕ) (f : ℕ) (fs last : List ℕ) (a : List ℕ) → is_walk_from g v (a ++ ((e ∷ es) ++ after)) ≡ true
-    → (e ∷ es) ++ after ≡ f_before ++ ((f ∷ fs) ++ last) → Follows g (e ∷ es) (f ∷ fs)
-follows-on_walk g v e es f_before after f fs last a walk same =
-    let on : is_walk_from g (walk_end g v a) ((e ∷ es) ++ after) ≡ true = walk-right g v a ((e ∷ es) ++ after) walk in
-    let s : IsStep g (walk_end g v a) e (es ++ after) = walk-cons g (walk_end g v a) e (es ++ after) on in
-    follows-from_walk g e es after f_before f fs last (subst (λ u. is_walk_from g u ((e ∷ es) ++ after) ≡ true) (sym s.leaves) on) same
+pub follows-on_walk : (g : Graph) (v : ℕ) (before : List ℕ) (e : ℕ) (es rest middle : List ℕ) (f : ℕ) (fs after : List ℕ) → is_walk_from g v (before ++ ((e ∷ es) ++ rest)) ≡ true
+    → (e ∷ es) ++ rest ≡ middle ++ ((f ∷ fs) ++ after) → Follows g (e ∷ es) (f ∷ fs)
+follows-on_walk g v before e es rest middle f fs after walk same =
+    let on : is_walk_from g (walk_end g v before) ((e ∷ es) ++ rest) ≡ true = walk-right g v before ((e ∷ es) ++ rest) walk in
+    let s : IsStep g (walk_end g v before) e (es ++ rest) = walk-cons g (walk_end g v before) e (es ++ rest) on in
+    follows-from_walk g e es rest middle f fs after (subst (λ u. is_walk_from g u ((e ∷ es) ++ rest) ≡ true) (sym s.leaves) on) same
 
 pub follows-from_share : (g : Graph) (e : ℕ) (es : List ℕ) (f : ℕ) (fs p : List ℕ) → IsPath g p → contains_run p (e ∷ es) ≡ true → contains_run p (f ∷ fs) ≡ true
     → Follows g (e ∷ es) (f ∷ fs) ⊎ Follows g (f ∷ fs) (e ∷ es)
@@ -154,8 +150,8 @@ follows-from_share g e es f fs p path first second =
     let r_walk : is_walk_from g pp.start (r.before ++ ((e ∷ es) ++ r.after)) ≡ true = subst (λ l. is_walk_from g pp.start l ≡ true) r.is pp.walk in
     let s_walk : is_walk_from g pp.start (s.before ++ ((f ∷ fs) ++ s.after)) ≡ true = subst (λ l. is_walk_from g pp.start l ≡ true) s.is pp.walk in
     elim (either_first r.before ((e ∷ es) ++ r.after) s.before ((f ∷ fs) ++ s.after) (sym r.is ∙ s.is)) [
-      | inl later ↦ inl (follows-on_walk g pp.start e es later.0 r.after f fs s.after r.before r_walk later.2)
-      | inr earlier ↦ inr (follows-on_walk g pp.start f fs earlier.0 s.after e es r.after s.before s_walk earlier.2)
+      | inl later ↦ inl (follows-on_walk g pp.start r.before e es r.after later.0 f fs s.after r_walk later.2)
+      | inr earlier ↦ inr (follows-on_walk g pp.start s.before f fs s.after earlier.0 e es r.after s_walk earlier.2)
     ]
 
 pub runs_share_by_reach : RunsShareByReach
