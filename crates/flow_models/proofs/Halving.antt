@@ -1,9 +1,9 @@
 -- Where an edge stands on a run of a net, by what is reached.
-use Rattle.std.proofs.Common.{◌≡◌, ◌≢◌, ℕ, zero, suc, ◌<◌, refl, sym, ap, ◌∙◌, arith, inl, inr, true, false, eqb, List, [], ◌∷◌, length, slice_index, get_or, eqb-true, eq-eqb, subst}
+use Rattle.std.proofs.Common.{◌≡◌, ◌≢◌, ℕ, zero, suc, ◌<◌, refl, sym, ap, ◌∙◌, arith, inl, inr, true, false, eqb, List, [], ◌∷◌, length, slice_index, get_or, eqb-true, subst}
 use Rattle.std.proofs.lemmas.Bool.{cases_order, false_from_ne_true}
 use Rattle.decomposition.specs.Graph.{Graph, IsNet, edge_count, tail, head, is_walk_from, IsRun, has_edge}
 use Rattle.decomposition.specs.Reach.{Reaches}
-use Rattle.decomposition.proofs.Members.{any-place, any-from_place}
+use Rattle.decomposition.proofs.Members.{any-place}
 use Rattle.decomposition.proofs.Walks.{IsStep, walk-cons, walk-from_step}
 use Rattle.decomposition.proofs.Reaching.{Reaches-self, Reaches-along, Reaches-trans}
 use Rattle.decomposition.proofs.Runs.{run-place}
@@ -69,9 +69,6 @@ has_edge-none es e none =
     false_from_ne_true (has_edge es e) (λ has.
     let at : (k : ℕ) × (k < length es) × (eqb e (get_or es k 0) ≡ true) = any-place (λ f. eqb e f) es 0 has in
     none at.0 at.1 (sym (eqb-true e (get_or es at.0 0) at.2)))
-
-pub has_edge-at : (es : List ℕ) (e k : ℕ) → k < length es → slice_index es k ≡ e → has_edge es e ≡ true
-has_edge-at es e k there at = any-from_place (λ f. eqb e f) es 0 k there (eq-eqb e (get_or es k 0) (sym at))
 
 pub Reaches-same : (g : Graph) (u v a b : ℕ) → u ≡ a → v ≡ b → Reaches g u v → Reaches g a b
 Reaches-same g u v a b from to way = subst (λ x. Reaches g x b) from (subst (λ y. Reaches g u y) to way)

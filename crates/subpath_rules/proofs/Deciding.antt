@@ -36,10 +36,6 @@ follows-decides b g walk run u v end start apart reaches = (
 pub rule-run : (g : Graph) (rules : List (List ℕ)) (i : ℕ) (run : List ℕ) → IsTrue (list_all (is_run g) rules) → i < length rules → run ≡ get_or rules i [] → IsRun g run
 rule-run g rules i run runs there is = subst (λ r. IsRun g r) (sym is) (all-place (is_run g) rules [] i runs there)
 
-pub begun-run : (g : Graph) (walk : List ℕ) → IsBegun g walk → (walk ≡ [] → ⊥) → IsRun g walk
-begun-run g [] begun some = absurd (some refl)
-begun-run g (e ∷ es) begun some = begun.1
-
 pub may-decides : (b : Bool) (g : Graph) (walk run : List ℕ) → IsNet g → IsBegun g walk → IsRun g run → (walk ≡ [] → ⊥) → (IsTrue b ↔ Follows g walk run) → b ≡ may_contain (paths g) walk run
 may-decides b g walk run net begun is_run some follows =
     let law = may_contain_by_reach g walk run net begun is_run in
