@@ -10,6 +10,7 @@ use Rattle.graph_text.specs.declared.refusal.Why.{Why}
 use Rattle.graph_text.specs.declared.refusal.Why.TheVariants.{LongLine, BadCount, BadFields, BadWeight, BadRange, RepeatedEdge, TooManyEdges}
 use Rattle.graph_text.specs.declared.refusal.Refusal.{Refusal}
 use Rattle.graph_text.specs.Lines.{are_no_fields, are_hash_fields, are_run_fields}
+use Rattle.graph_text.specs.ShownLine.{IsBlank, IsHash, IsContent}
 use Rattle.graph_text.specs.Reading.{Line, most_bytes, most_edges, filled_lines, content_lines, run_lines, count_lines, edge_lines, last_filled, long_lines, bad_fields, bad_weights, bad_ranges, repeats, is_count, is_weight, weights_of, last_fields, range_of, same_fields, ends_of, refused, earliest, or_else}
 use Rattle.graph_text.specs.Draft.{is_content, settled_refusals}
 use Rattle.graph_text.proofs.Earliest.{Grows, Grows-append, Grows-merge, Grows-at, Grows-kind, Grows-same, Grows-repeats, refusal_if}
@@ -23,18 +24,6 @@ filter_fail p xs x e =
     filter-append p xs (x ∷ [])
     ∙ ap (λ ys. filter p xs ++ ys) (cond-false (p x) (x ∷ []) [] e)
     ∙ append-nil (filter p xs)
-
--- What a line is: blank, a `#` line or a content line.
-pub record IsBlank (l : Line) : Type 0 where
-  pub none : are_no_fields l.fields ≡ true
-
-pub record IsHash (l : Line) : Type 0 where
-  pub some : are_no_fields l.fields ≡ false
-  pub hash : are_hash_fields l.fields ≡ true
-
-pub record IsContent (l : Line) : Type 0 where
-  pub some : are_no_fields l.fields ≡ false
-  pub no_hash : are_hash_fields l.fields ≡ false
 
 pub filled-blank : (lines : List Line) (l : Line) → IsBlank l → filled_lines (lines ++ l ∷ []) ≡ filled_lines lines
 filled-blank lines l b = filter_fail (λ l. not (are_no_fields l.fields)) lines l (ap not b.none)

@@ -10,7 +10,7 @@ use Rattle.std.proofs.lemmas.List.{append-nil, map_push}
 use Rattle.std.proofs.lemmas.List.Elements.{All-head, All-tail, All-weaker, Contains-append_left, Contains-append_right, Contains-get_or, filter-append}
 use Rattle.std.proofs.lemmas.Map.Made.{is_member-filter, Contains-tail}
 use Rattle.std.proofs.lemmas.Slice.Eq.{bytes_eq-Decides}
-use Rattle.dag_net.proofs.Lists.{Contains-cons_cases, Contains-filter}
+use Rattle.graph_text.proofs.Members.{Contains-cons_cases, Contains-filter}
 use Rattle.graph_text.specs.Labels.{with_name}
 use Rattle.graph_text.specs.Reading.{Line, edge_lines, ends_of, distinct, names_of, vertex_of, pair_in, edge_of, edges_of}
 use Rattle.graph_text.proofs.Naming.{Contains-with_name, Contains-with_name_same, vertex_of-kept}

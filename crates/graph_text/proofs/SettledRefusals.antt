@@ -12,8 +12,9 @@ use Rattle.graph_text.specs.Lines.{are_no_fields, are_hash_fields}
 use Rattle.graph_text.specs.Reading.{Line, most_bytes, most_edges, filled_lines, content_lines, count_lines, edge_lines, long_lines, bad_fields, bad_weights, bad_ranges, repeats, is_count, is_weight, weights_of, last_fields, range_of, same_fields, ends_of, refused, earliest, or_else}
 use Rattle.graph_text.specs.Draft.{settled_refusals}
 use Rattle.graph_text.specs.LineFaults.{fault_of_hash, fault_of_count, fault_of_edge, or_fault, refusal_at}
+use Rattle.graph_text.specs.ShownLine.{IsBlank, IsHash, IsContent}
 use Rattle.graph_text.proofs.Earliest.{Grows, Grows-kind, Grows-same, Grows-repeats, refusal_if}
-use Rattle.graph_text.proofs.LineByLine.{IsBlank, IsHash, IsContent, filled-blank, filled-some, content-hash, content-more, count-first, edge-more, GrowsBy, Grows-all}
+use Rattle.graph_text.proofs.LineByLine.{filled-blank, filled-some, content-hash, content-more, count-first, edge-more, GrowsBy, Grows-all}
 
 filled-below : (n : ℕ) (lines : List Line) → All (λ k. k.number < n) lines → All (λ k. k.number < n) (filled_lines lines)
 filled-below n lines h = All-filter (λ l. not (are_no_fields l.fields)) (λ (k : Line). k.number < n) lines h
