@@ -23,6 +23,7 @@ pub fn first_no_run(net: &Net, listed: &IdLists) -> Option<u32>
     None
 }
 
+/// The same run as a list of its own.
 fn copy_of(alloc: Global, run: &[u32]) -> Result<Ids, AllocError>
     ensures { IfOk result (λ copy. copy ≡ run.now) }
 {

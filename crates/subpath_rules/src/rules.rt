@@ -67,12 +67,14 @@ impl Rules {
         Ok(Rules { runs })
     }
 
+    /// The number of rules.
     pub fn len(&self) -> u32
         ensures { result ≡ length self.now }
     {
         self.runs.len() as u32
     }
 
+    /// The run of a rule, counted from 0.
     pub fn run(&self, i: u32) -> &[u32]
         requires { i < length self.now }
         ensures { result.now ≡ slice_index_or self.now i [] }
