@@ -1,0 +1,4 @@
+pub mod Overlaps
+pub mod Once
+pub mod Deciding
+pub mod RunsByReach

@@ -1,0 +1,10 @@
+//! The runs that an answer must contain, and whether it does.
+#![tactic(auto)]
+
+pub use rules::{RuleFault, Rules};
+
+mod follows;
+pub mod laws;
+mod listed;
+mod rules;
+mod standing;
