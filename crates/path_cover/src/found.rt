@@ -1,0 +1,8 @@
+use dag_net::{IdLists, Ids};
+
+/// The fewest paths that have every needed edge, and as many needed edges of which no two lie on one path.
+#[derive(Debug, Drop)]
+pub struct Width {
+    pub cover: IdLists,
+    pub antichain: Ids,
+}
