@@ -6,7 +6,7 @@ use Rattle.decomposition.specs.Graph.{Graph, IsNet, IsPath, edge_count, tail, he
 use Rattle.decomposition.specs.Answer.{sum_below, is_ordered}
 use Rattle.decomposition.specs.Reach.{Reaches}
 use Rattle.decomposition.specs.Width.{AreApart, IsApart, IsAntichainOf}
-use Rattle.decomposition.proofs.Sums.{sum_below-same}
+use Rattle.decomposition.proofs.Sums.{sum_below-same, sum_below_more}
 use Rattle.decomposition.proofs.Balance.{total}
 use Rattle.decomposition.proofs.Root.{all-cons, all-parts}
 use Rattle.decomposition.proofs.FewPaths.{all-append}
@@ -162,6 +162,35 @@ module _ (g : Graph) (needed : ℕ → Bool) (flow : ℕ → ℕ) (inside : ℕ 
       (λ e h. ap (λ x. cond (leaves g inside e) x 0) (makes e h) ∙ least_leaves e h (enough e h))
       ∙ sym those.count
 
--- the list grows by an edge that passes, and stays at another
-pub AreThose-start : (test : ℕ → Bool) → AreThose test 0 []
-AreThose-start test = record { listed = refl; count = refl; rising = refl }
+-- the list stays as it is at an edge that does not pass, and has one that passes at its end
+module _ (test : ℕ → Bool) (n : ℕ) (es : List ℕ) (those : AreThose test n es) where
+  wider : (xs : List ℕ) → list_all (λ e. nat_lt e n && test e) xs ≡ true → list_all (λ e. nat_lt e (n + 1) && test e) xs ≡ true
+  wider [] listed = refl
+  wider (x ∷ xs) listed =
+      let parts = all-parts (λ e. nat_lt e n && test e) x xs listed in
+      let here = and_parts (nat_lt x n) (test x) parts.0 in
+      let lt : x < n = ltb-true x n here.0 in
+      all-cons (λ e. nat_lt e (n + 1) && test e) x xs (and_from (nat_lt x (n + 1)) (test x) (lt-ltb x (n + 1) (omega arith)) here.1) (wider xs parts.1)
+
+  pub AreThose-other : test n ≡ false → AreThose test (n + 1) es
+  AreThose-other other = record {
+    listed = wider es those.listed;
+    count = rw (sum_below_more (λ e. cond (test e) 1 0) n, other) (omega (arith, those.count));
+    rising = those.rising;
+  }
+
+  longer : (xs : List ℕ) → list_all (λ e. nat_lt e n && test e) xs ≡ true → is_ordered nat_lt xs ≡ true → is_ordered nat_lt (xs ++ n ∷ []) ≡ true
+  longer [] listed rising = refl
+  longer (x ∷ []) listed rising = let parts = all-parts (λ e. nat_lt e n && test e) x [] listed in and_from (nat_lt x n) true (and_parts (nat_lt x n) (test x) parts.0).0 refl
+  longer (x ∷ y ∷ xs) listed rising =
+      let parts = all-parts (λ e. nat_lt e n && test e) x (y ∷ xs) listed in
+      let both = and_parts (nat_lt x y) (is_ordered nat_lt (y ∷ xs)) rising in
+      and_from (nat_lt x y) (is_ordered nat_lt (y ∷ (xs ++ n ∷ []))) both.0 (longer (y ∷ xs) parts.1 both.1)
+
+  pub AreThose-more : test n ≡ true → AreThose test (n + 1) (es ++ n ∷ [])
+  AreThose-more passes = record {
+    listed = all-append (λ e. nat_lt e (n + 1) && test e) es (n ∷ []) (wider es those.listed)
+        (all-cons (λ e. nat_lt e (n + 1) && test e) n [] (and_from (nat_lt n (n + 1)) (test n) (lt-ltb n (n + 1) (omega arith)) passes) refl);
+    count = rw (sum_below_more (λ e. cond (test e) 1 0) n, passes) (omega (arith, those.count, length-append es (n ∷ [])));
+    rising = longer es those.listed those.rising;
+  }

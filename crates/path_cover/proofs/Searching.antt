@@ -22,9 +22,12 @@ set-here marked x h = get_or-set_same marked x true false h
 pub set-other : (marked : List Bool) (x v : ℕ) → v ≢ x → is_set (slice_set marked x true) v ≡ is_set marked v
 set-other marked x v other = get_or-set_other marked x v true false other
 
--- the vertex that is read at a place
+-- what is read at a place
 pub entry-read : (entries : List Reached) (k : ℕ) (r : Reached) → k < length entries → r ≡ get_or entries k r → r.vertex ≡ (entry_at entries k).vertex
 entry-read entries k r h read = ap (λ (x : Reached). x.vertex) (get_or_read entries k r h read (record { vertex = 0; way = None }))
+
+pub way-read : (entries : List Reached) (k : ℕ) (r : Reached) (way : Option (ℕ × ℕ)) → k < length entries → r ≡ get_or entries k r → r.way ≡ way → (entry_at entries k).way ≡ way
+way-read entries k r way h read is = sym (ap (λ (x : Reached). x.way) (get_or_read entries k r h read (record { vertex = 0; way = None }))) ∙ is
 
 pub Grows-same : (entries : List Reached) (marked : List Bool) → Grows entries marked entries marked
 Grows-same entries marked = record { longer = omega arith; same = λ k h. refl; marks = λ v h. h }

@@ -1,6 +1,6 @@
 //! The width of needed edges, by a flow that carries them with as little as can be.
 
-ghost use Rattle.std.specs.Prelude.{◌≡◌, ℕ, ◌&&◌, nat_lt, length, slice_index_or, false, IsTrue, IfOk};
+ghost use Rattle.std.specs.Prelude.{◌≡◌, ◌<◌, ℕ, ◌&&◌, nat_lt, length, slice_index_or, false, IsTrue, IfOk};
 ghost use Rattle.decomposition.specs.Graph.{edge_count};
 ghost use Rattle.decomposition.specs.Answer.{is_ordered};
 ghost use Rattle.decomposition.specs.Width.{IsPathCover, IsAntichainOf};
