@@ -1,9 +1,9 @@
 -- A closed set of vertices: each path leaves it once, so the needed edges that leave it are an antichain as large as the flow.
-use Rattle.std.proofs.Common.{◌⊎◌, ◌≡◌, ◌≢◌, ℕ, zero, suc, ◌+◌, ◌<◌, ◌≤◌, ◌==◌, Bool, true, false, not, ◌&&◌, nat_lt, cond, List, [], ◌∷◌, ◌++◌, length, length-append, refl, sym, ap, subst, ◌∙◌, arith, inl, inr, ltb-true, lt-ltb, true≢false}
+use Rattle.std.proofs.Common.{◌≡◌, ◌≢◌, ℕ, ◌+◌, ◌<◌, ◌≤◌, Bool, true, false, not, ◌&&◌, nat_lt, cond, List, [], ◌∷◌, ◌++◌, length, length-append, refl, sym, ap, subst, ◌∙◌, arith, inl, inr, ltb-true, lt-ltb, true≢false}
 use Rattle.std.specs.List.{list_all, AllByRecursion}
-use Rattle.std.proofs.lemmas.Bool.{cases_Bool, both_ways, and_parts, and_from, not-true, not_from_false, not_from_true}
-use Rattle.decomposition.specs.Graph.{Graph, IsNet, IsPath, edge_count, tail, head, is_source, is_sink, is_run, is_path, is_walk_from, walk_end, EdgesShareAPath}
-use Rattle.decomposition.specs.Answer.{sum_below, is_ordered}
+use Rattle.std.proofs.lemmas.Bool.{cases_Bool, both_ways, and_parts, and_from, not-true}
+use Rattle.decomposition.specs.Graph.{Graph, IsPath, edge_count, tail, head, is_source, is_sink, is_run, is_path, is_walk_from, walk_end, EdgesShareAPath}
+use Rattle.decomposition.specs.Answer.{is_ordered}
 use Rattle.decomposition.specs.Reach.{Reaches}
 use Rattle.decomposition.specs.Width.{AreApart, IsApart, IsAntichainOf}
 use Rattle.decomposition.proofs.Sums.{sum_below-same, sum_below_more}

@@ -1,6 +1,6 @@
 -- How many vertices reach a vertex: one more at least at the head of an edge than at its tail.
-use Rattle.std.proofs.Common.{◌⊎◌, ◌≡◌, ℕ, ◌+◌, ◌<◌, ◌≤◌, Bool, true, false, cond, List, [], ◌∷◌, refl, sym, subst, arith, inl, inr}
-use Rattle.std.proofs.lemmas.Bool.{cases_Bool, both_ways}
+use Rattle.std.proofs.Common.{◌≡◌, ℕ, ◌<◌, ◌≤◌, true, false, cond, [], ◌∷◌, refl, arith, inl, inr}
+use Rattle.std.proofs.lemmas.Bool.{cases_Bool}
 use Rattle.decomposition.specs.Graph.{Graph, IsNet, edge_count, tail, head}
 use Rattle.decomposition.specs.Answer.{sum_below}
 use Rattle.decomposition.specs.Reach.{Reaches, reaches}

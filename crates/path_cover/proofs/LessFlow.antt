@@ -1,13 +1,12 @@
 -- One unit less, by a search that has reached a sink.
-use Rattle.std.proofs.Common.{◌⊎◌, ◌≡◌, ◌≢◌, ℕ, ◌+◌, ◌*◌, zero, suc, ◌<◌, ◌≤◌, Bool, true, false, not, cond, List, length, Option, None, Some, refl, sym, ap, subst, ◌∙◌, arith, inl, inr}
+use Rattle.std.proofs.Common.{◌≡◌, ◌≢◌, ℕ, ◌+◌, ◌*◌, zero, suc, ◌<◌, ◌≤◌, Bool, true, false, not, cond, List, length, None, Some, refl, sym, ap, subst, ◌∙◌, arith, inl, inr}
 use Rattle.std.specs.Prelude.{IsTrue}
-use Rattle.std.proofs.lemmas.Bool.{cases_lt, cases_eq, cases_Bool, both_ways, not-true}
+use Rattle.std.proofs.lemmas.Bool.{cases_eq, not-true}
 use Rattle.decomposition.specs.Graph.{Graph, edge_count, tail, head, is_source, is_sink}
 use Rattle.decomposition.specs.Answer.{sum_below}
-use Rattle.decomposition.specs.Flow.{IsBalanced}
 use Rattle.decomposition.proofs.Flows.{tail-no_sink}
 use Rattle.path_cover.specs.Carrying.{least_flow, IsCarrying, IsBalancedBut, arriving}
-use Rattle.path_cover.specs.Search.{is_set, entry_at, IsStepFrom, IsReached, IsSearch, EndsAt}
+use Rattle.path_cover.specs.Search.{entry_at, IsStepFrom, IsReached, IsSearch, EndsAt}
 use Rattle.path_cover.specs.declared.search.Reached.{Reached}
 use Rattle.path_cover.specs.declared.search.Search.{Search}
 use Rattle.path_cover.proofs.Moves.{IsRaised, arriving-raised, raise-onward, lower-back, IsBalancedBut-same, IsBalanced-from_but, source-outer, sink-outer}

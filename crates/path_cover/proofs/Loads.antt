@@ -1,13 +1,15 @@
 -- What the paths of a list put on the edges.
-use Rattle.std.proofs.Common.{◌⊎◌, ◌≡◌, ◌≢◌, ℕ, zero, ◌+◌, ◌<◌, ◌≤◌, ◌==◌, Bool, true, false, cond, List, [], ◌∷◌, ◌++◌, refl, sym, ap, subst, ◌∙◌, arith, inl, inr, eq-eqb, eqb-true, ne_eqb}
+use Rattle.std.proofs.Common.{◌≡◌, ◌≢◌, ℕ, ◌+◌, ◌<◌, ◌≤◌, ◌==◌, Bool, true, false, cond, List, [], ◌∷◌, ◌++◌, refl, sym, ap, arith, inl, inr, eq-eqb, eqb-true, ne_eqb}
 use Rattle.std.specs.List.{list_any, list_all, AllByRecursion}
 use Rattle.std.proofs.lemmas.Bool.{cases_lt, cases_Bool}
-use Rattle.decomposition.specs.Graph.{Graph, edge_count, head, is_walk_from, has_edge}
+use Rattle.decomposition.specs.Graph.{Graph, edge_count, head, is_walk_from, is_path, has_edge}
+use Rattle.decomposition.specs.Width.{IsPathCover}
 use Rattle.decomposition.specs.Answer.{sum_below}
 use Rattle.decomposition.proofs.Sums.{sum_below-one, sum_below-nil, sum_below-add, sum_below-same}
 use Rattle.decomposition.proofs.Balance.{total, cond-zero, cond-add}
 use Rattle.decomposition.proofs.Members.{any-here, any-there}
 use Rattle.decomposition.proofs.Walks.{IsStep, walk-cons}
+use Rattle.path_cover.specs.Carrying.{least_flow}
 use Rattle.path_cover.specs.Load.{times, load}
 
 -- an edge that stands in a list
@@ -74,3 +76,11 @@ load-totals test m (p ∷ ps) inside =
 pub walk-below : (g : Graph) (v : ℕ) (es : List ℕ) → is_walk_from g v es ≡ true → AllByRecursion (λ e. e < edge_count g) es
 walk-below g v [] walk = tt
 walk-below g v (e ∷ es) walk = let s : IsStep g v e es = walk-cons g v e es walk in (s.inside, walk-below g (head g e) es s.rest)
+
+-- paths that make up a flow which carries the needed edges have them all
+pub IsPathCover-load : (g : Graph) (needed : ℕ → Bool) (flow : ℕ → ℕ) (ps : List (List ℕ)) → list_all (is_path g) ps ≡ true → ((e : ℕ) → e < edge_count g → load ps e ≡ flow e) → ((e : ℕ) → e < edge_count g → least_flow needed e ≤ flow e)
+    → IsPathCover g needed ps
+IsPathCover-load g needed flow ps paths makes enough = record {
+  paths = paths;
+  covers = λ e h need. let least : 1 ≤ flow e = rw need at (enough e h) in load-has ps e (omega (arith, makes e h));
+}

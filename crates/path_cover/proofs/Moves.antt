@@ -1,11 +1,10 @@
 -- What one unit more or less on an edge does to the balance and to what arrives.
-use Rattle.std.proofs.Common.{◌≡◌, ◌≢◌, ℕ, ◌+◌, ◌<◌, ◌≤◌, ◌==◌, Bool, true, false, cond, List, length, refl, sym, ap, subst, ◌∙◌, arith, inl, inr, ne_eqb}
+use Rattle.std.proofs.Common.{◌≡◌, ◌≢◌, ℕ, ◌+◌, ◌<◌, ◌==◌, Bool, true, false, cond, refl, sym, ap, subst, arith, inl, inr, ne_eqb}
 use Rattle.std.proofs.lemmas.Bool.{cases_Bool, both_ways}
 use Rattle.decomposition.specs.Graph.{Graph, edge_count, tail, head, is_source, is_sink, is_inner}
 use Rattle.decomposition.specs.Answer.{sum_below}
 use Rattle.decomposition.specs.Flow.{IsBalanced, flow_into, flow_out_of}
 use Rattle.decomposition.proofs.Sums.{sum_below-one}
-use Rattle.decomposition.proofs.Balance.{inner-parts}
 use Rattle.path_cover.specs.Carrying.{arriving, unit_at, IsBalancedBut}
 
 -- one unit more on edge e, and the same elsewhere

@@ -1,18 +1,18 @@
 -- The entries of a search, one after the other.
-use Rattle.std.proofs.Common.{◌⊎◌, ◌≡◌, ◌≢◌, ℕ, zero, suc, true≢false, ◌+◌, ◌-◌, ◌<◌, ◌≤◌, Bool, true, false, not, cond, List, [], ◌∷◌, ◌++◌, length, length-append, replicate, Option, None, Some, MatchOption, get_or, slice_index_or, slice_set, get_or-set_same, get_or-set_other, length-set, refl, sym, ap, subst, ◌∙◌, arith, inl, inr}
+use Rattle.std.proofs.Common.{◌⊎◌, ◌≡◌, ◌≢◌, ℕ, zero, suc, true≢false, ◌+◌, ◌-◌, ◌<◌, ◌≤◌, Bool, true, false, not, cond, List, [], ◌∷◌, ◌++◌, length, length-append, replicate, Option, None, Some, MatchOption, get_or, slice_set, get_or-set_same, get_or-set_other, length-set, refl, sym, ap, subst, ◌∙◌, arith, inl, inr}
 use Rattle.std.specs.Prelude.{IsTrue}
 use Rattle.std.specs.Option.{option_map_or}
 use Rattle.std.proofs.Math.ListN.{get_or-append}
 use Rattle.std.proofs.Math.Seq.{get_or-append_seam}
 use Rattle.std.proofs.lemmas.Bool.{cases_Bool, cases_lt, cases_eq, both_ways, not-true, not_from_false}
 use Rattle.std.proofs.lemmas.List.{get_or_read, get_or_past, get_or-replicate, length-replicate}
-use Rattle.decomposition.specs.Graph.{Graph, edge_count, tail, head, is_source, is_sink}
+use Rattle.decomposition.specs.Graph.{Graph, edge_count, tail, head, is_sink}
 use Rattle.decomposition.specs.Answer.{sum_below}
 use Rattle.decomposition.proofs.Sums.{sum_below-one, sum_below-nil}
 use Rattle.decomposition.proofs.FewPaths.{sum_below-ones, one_or_none}
 use Rattle.path_cover.specs.Carrying.{least_flow}
 use Rattle.path_cover.specs.Cut.{IsClosed}
-use Rattle.path_cover.specs.Search.{is_set, entry_at, IsStepOver, IsStepFrom, IsReached, IsSearch, IsBegun, Enters, Grows, IsFollowed, IsVisited, AreSourcesMarked}
+use Rattle.path_cover.specs.Search.{is_set, entry_at, IsStepOver, IsReached, IsSearch, IsBegun, Enters, Grows, IsFollowed, IsVisited, AreSourcesMarked}
 use Rattle.path_cover.specs.declared.search.Reached.{Reached}
 
 -- a mark that is set, and the others
@@ -103,7 +103,7 @@ module _ (g : Graph) (needed : ℕ → Bool) (flow : ℕ → ℕ) where
             arith,
             length-append entries (r ∷ []),
             sum_below-one (λ v. cond (is_set (slice_set marked r.vertex true) v) 1 0) (λ v. cond (is_set marked v) 1 0) 1 r.vertex g.vertices there (rw (here, free) refl)
-            (λ v other. ap (λ b. cond b 1 0) (set-other marked r.vertex v other)),
+                (λ v other. ap (λ b. cond b 1 0) (set-other marked r.vertex v other)),
           );
     } where
       here : is_set (slice_set marked r.vertex true) r.vertex ≡ true

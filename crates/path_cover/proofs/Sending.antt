@@ -1,13 +1,12 @@
 -- One unit more along a path, and so a first flow.
-use Rattle.std.proofs.Common.{◌≡◌, ◌≢◌, ℕ, ◌+◌, ◌-◌, ◌*◌, ◌<◌, ◌≤◌, Bool, true, false, cond, List, [], ◌∷◌, length, Option, None, Some, MatchOption, slice_index, slice_set, get_or-set_same, get_or-set_other, length-set, refl, sym, ap, subst, ◌∙◌, arith, inl, inr}
-use Rattle.std.specs.Prelude.{IsTrue}
-use Rattle.std.proofs.lemmas.Bool.{cases_lt, cases_eq, cases_Bool}
+use Rattle.std.proofs.Common.{◌≡◌, ℕ, ◌+◌, ◌-◌, ◌*◌, ◌<◌, ◌≤◌, Bool, true, List, length, None, slice_index, slice_set, get_or-set_same, get_or-set_other, sym, subst, ◌∙◌, arith, inl, inr}
+use Rattle.std.proofs.lemmas.Bool.{cases_eq, cases_Bool}
 use Rattle.decomposition.specs.Graph.{Graph, IsNet, edge_count, tail, head, is_source, is_sink}
 use Rattle.decomposition.specs.Flow.{IsBalanced}
 use Rattle.decomposition.proofs.Walks.{edge_into, edge_out_of}
 use Rattle.decomposition.proofs.Nets.{inside-from_net}
 use Rattle.dag_net.specs.Chain.{IsFirstOut}
-use Rattle.path_cover.specs.Carrying.{least_flow, IsCarrying, IsBalancedBut, IsMore, IsSentOn, IsBroughtIn}
+use Rattle.path_cover.specs.Carrying.{least_flow, IsBalancedBut, IsMore, IsSentOn, IsBroughtIn}
 use Rattle.path_cover.specs.Entering.{IsFirstInto}
 use Rattle.path_cover.proofs.Moves.{IsRaised, raise-onward, raise-back, IsBalancedBut-same, IsBalanced-from_but, source-outer, sink-outer}
 use Rattle.path_cover.proofs.Depth.{depth, depth-le, depth-rises}

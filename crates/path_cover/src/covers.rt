@@ -26,12 +26,7 @@ fn is_leaving(net: &Net, needed: &[bool], marked: &[bool], e: u32) -> bool
 }
 
 /// The needed edges that leave the marked vertices, rising.
-fn leaving(
-    alloc: Global,
-    net: &Net,
-    needed: &[bool],
-    marked: &[bool],
-) -> Result<Ids, AllocError>
+fn leaving(alloc: Global, net: &Net, needed: &[bool], marked: &[bool]) -> Result<Ids, AllocError>
     requires needed { length needed.now ≡ edge_count net.now }
     requires marked { length marked.now ≡ net.now.vertices }
     ensures { IfOk result (AreThose (λ e. is_set needed.now e && leaves net.now (is_set marked.now) e) (edge_count net.now)) }

@@ -1,4 +1,4 @@
-use Rattle.std.proofs.Common.{◌≡◌, ◌+◌, ◌-◌, ◌<◌, ◌≤◌, None, Some, length, slice_index, slice_set, sym, subst, arith}
+use Rattle.std.proofs.Common.{◌+◌, ◌<◌, None, slice_index, slice_set, sym, subst, arith}
 use Rattle.std.proofs.lemmas.List.{get_or_read}
 use Rattle.decomposition.specs.Graph.{tail}
 use Rattle.path_cover.specs.Entering.{IsFirstInto}

@@ -1,4 +1,3 @@
-use Rattle.std.proofs.Common.{slice_index}
 use Rattle.path_cover.specs.Search.{is_set}
 use Rattle.path_cover.proofs.Sending.{CarriesBefore}
 use Rattle.path_cover.proofs.carrying.first_flow.Given as goal

@@ -1,4 +1,4 @@
-use Rattle.std.proofs.Common.{◌≡◌, ◌+◌, ◌-◌, ◌<◌, ◌≤◌, None, length, slice_index, slice_set, sym, subst, arith}
+use Rattle.std.proofs.Common.{◌+◌, ◌-◌, ◌<◌, slice_index, slice_set, sym, subst, arith}
 use Rattle.decomposition.specs.Graph.{head}
 use Rattle.path_cover.proofs.Depth.{depth, depth-le, depth-rises}
 use Rattle.path_cover.proofs.Sending.{Sends, Sends-more, Sends-all, Sends-few, IsRaised-set, is_sink-from_none}

@@ -1,4 +1,4 @@
-use Rattle.std.proofs.Common.{◌≡◌, ◌+◌, ◌<◌, length, slice_index, slice_set, sym, subst, arith}
+use Rattle.std.proofs.Common.{◌+◌, slice_index, slice_set, subst, arith}
 use Rattle.path_cover.specs.Carrying.{IsSentOn, IsBroughtIn}
 use Rattle.path_cover.proofs.Sending.{IsRaised-set, IsBalanced-through}
 use Rattle.path_cover.proofs.carrying.send_through.Goals as goal

@@ -1,4 +1,4 @@
-use Rattle.std.proofs.Common.{◌≡◌, ◌++◌, ◌∷◌, [], ◌&&◌, ℕ, Bool, List, sym, subst, ◌∙◌}
+use Rattle.std.proofs.Common.{◌+◌, ◌&&◌, ℕ, Bool, sym, subst, ◌∙◌}
 use Rattle.path_cover.specs.Cut.{leaves, AreThose}
 use Rattle.path_cover.specs.Search.{is_set}
 use Rattle.path_cover.proofs.Crossing.{AreThose-other, AreThose-more}
@@ -11,7 +11,6 @@ loop-e-preserved c =
     let e = c.loop-e.e in
     elim c.if-is_leaving.branch [
       | then-is_leaving+in_ok-push w ↦
-          ?
-      | else-is_leaving w ↦
-          ?
+          subst (AreThose test (e + 1)) (sym (w.edges-is ∙ w.in_ok-push.ensures.ok)) (AreThose-more test e c.loop-e.edges c.loop-e.invariant (sym c.is_leaving.ensures ∙ w.if-is_leaving.true))
+      | else-is_leaving w ↦ subst (AreThose test (e + 1)) (sym w.edges-is) (AreThose-other test e c.loop-e.edges c.loop-e.invariant (sym c.is_leaving.ensures ∙ w.if-is_leaving.false))
     ]

@@ -1,4 +1,4 @@
-use Rattle.std.proofs.Common.{◌≡◌, ◌≢◌, ◌+◌, ◌-◌, ◌<◌, ◌≤◌, None, Some, length, vec_len, slice_index, slice_set, sym, subst, ◌∙◌, arith}
+use Rattle.std.proofs.Common.{◌≡◌, ◌≢◌, ◌+◌, ◌-◌, ◌<◌, Some, length, slice_index, slice_set, sym, ◌∙◌, arith}
 use Rattle.std.proofs.lemmas.Bool.{both_ways}
 use Rattle.decomposition.specs.Graph.{head}
 use Rattle.path_cover.specs.Search.{is_set, entry_at}
@@ -71,5 +71,10 @@ loop-e-preserved c =
 
 pub returns-clause-few : goal.returns-clause-few
 returns-clause-few c = λ e.
-    omega (arith, c.loop-e.invariant.few e, c.requires.place, c.args.search.now.entries.ok.0,
-    IsSearch-few c.args.net.now (is_set c.args.needed.now) (slice_index c.args.flow.now) c.args.search.now.entries.items c.args.search.now.marked.items c.requires.search)
+    omega (
+      arith,
+      c.loop-e.invariant.few e,
+      c.requires.place,
+      c.args.search.now.entries.ok.0,
+      IsSearch-few c.args.net.now (is_set c.args.needed.now) (slice_index c.args.flow.now) c.args.search.now.entries.items c.args.search.now.marked.items c.requires.search,
+    )

@@ -1,5 +1,4 @@
-use Rattle.std.proofs.Common.{◌≡◌, ◌++◌, ◌+◌, ◌∷◌, [], ◌-◌, ◌<◌, length, length-append, slice_index, slice_set, sym, ap, subst, arith}
-use Rattle.decomposition.specs.Graph.{edge_count}
+use Rattle.std.proofs.Common.{◌∷◌, [], ◌-◌, length, length-append, slice_index, slice_set, sym, ap, subst, arith}
 use Rattle.path_cover.specs.Load.{IsNextLeft}
 use Rattle.path_cover.proofs.Sending.{IsRaised-unset}
 use Rattle.path_cover.proofs.SplitFlow.{Takes, Takes-length, Takes-more, Takes-all}

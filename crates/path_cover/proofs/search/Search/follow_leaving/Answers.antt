@@ -1,4 +1,4 @@
-use Rattle.std.proofs.Common.{◌≡◌, ◌+◌, ◌<◌, length, vec_len, slice_index, sym, ap, subst, arith}
+use Rattle.std.proofs.Common.{◌+◌, ◌<◌, length, slice_index, subst, arith}
 use Rattle.decomposition.specs.Graph.{tail}
 use Rattle.dag_net.specs.Chain.{IsFirstOut}
 use Rattle.path_cover.specs.Search.{is_set, entry_at, IsFollowed}

@@ -1,4 +1,4 @@
-use Rattle.std.proofs.Common.{◌≡◌, ◌+◌, ◌-◌, ◌<◌, ◌≤◌, None, true, false, length, vec_len, slice_index, sym, ap, subst, ◌∙◌, arith}
+use Rattle.std.proofs.Common.{◌≡◌, ◌+◌, ◌-◌, ◌<◌, false, length, slice_index, sym, subst, ◌∙◌, arith}
 use Rattle.decomposition.specs.Graph.{is_sink}
 use Rattle.path_cover.specs.Search.{is_set, entry_at}
 use Rattle.path_cover.proofs.Searching.{entry-read, Runs-more, Runs-all, vertex-below, IsSearch-few}

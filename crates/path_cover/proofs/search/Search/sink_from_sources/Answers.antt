@@ -1,4 +1,4 @@
-use Rattle.std.proofs.Common.{◌≡◌, List, ◌<◌, Bool, false, length, slice_index, sym, subst, ◌∙◌, arith}
+use Rattle.std.proofs.Common.{◌≡◌, List, Bool, false, length, slice_index, sym, subst, arith}
 use Rattle.path_cover.specs.Search.{is_set, IsBegun}
 use Rattle.path_cover.specs.declared.search.Reached.{Reached}
 use Rattle.path_cover.proofs.Searching.{IsBegun-empty, set-none}
