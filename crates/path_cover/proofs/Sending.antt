@@ -1,5 +1,5 @@
 -- One unit more along a path, and so a first flow.
-use Rattle.std.proofs.Common.{◌≡◌, ℕ, ◌+◌, ◌-◌, ◌*◌, ◌<◌, ◌≤◌, Bool, true, List, length, None, slice_index, slice_set, get_or-set_same, get_or-set_other, sym, subst, ◌∙◌, arith, inl, inr}
+use Rattle.std.proofs.Common.{Option, Some, MatchOption, ◌≡◌, ℕ, ◌+◌, ◌-◌, ◌*◌, ◌<◌, ◌≤◌, Bool, true, List, length, None, slice_index, slice_set, get_or-set_same, get_or-set_other, sym, subst, ◌∙◌, arith, inl, inr}
 use Rattle.std.proofs.lemmas.Bool.{cases_eq, cases_Bool}
 use Rattle.decomposition.specs.Graph.{Graph, IsNet, edge_count, tail, head, is_source, is_sink}
 use Rattle.decomposition.specs.Flow.{IsBalanced}
@@ -7,7 +7,7 @@ use Rattle.decomposition.proofs.Walks.{edge_into, edge_out_of}
 use Rattle.decomposition.proofs.Nets.{inside-from_net}
 use Rattle.dag_net.specs.Chain.{IsFirstOut}
 use Rattle.path_cover.specs.Carrying.{least_flow, IsBalancedBut, IsMore, IsSentOn, IsBroughtIn}
-use Rattle.path_cover.specs.Entering.{IsFirstInto}
+use Rattle.path_cover.specs.Entering.{IsFirstInto, IsEdgeOut, IsEdgeInto}
 use Rattle.path_cover.proofs.Moves.{IsRaised, raise-onward, raise-back, IsBalancedBut-same, IsBalanced-from_but, source-outer, sink-outer}
 use Rattle.path_cover.proofs.Depth.{depth, depth-le, depth-rises}
 
@@ -122,3 +122,20 @@ CarriesBefore-more g needed flow new n c count more here balanced = record {
   ];
   small = λ e. omega (arith, c.small e, more.few e);
 }
+
+-- the edge at hand, if there is one, enters v
+abbrev pub IsOneInto : Graph → ℕ → Option ℕ → Type 0
+IsOneInto g v into = MatchOption into (Unit {0}) (λ e. (e < edge_count g) × (head g e ≡ v))
+
+pub IsOneInto-first : (g : Graph) (v from : ℕ) (into : Option ℕ) → IsFirstInto g v from into → IsOneInto g v into
+IsOneInto-first g v from None none = tt
+IsOneInto-first g v from (Some e) first = (first.1, first.2)
+
+-- the first edge at v is one
+pub IsEdgeOut-first : (g : Graph) (v : ℕ) (out : Option ℕ) → IsFirstOut g v 0 out → IsEdgeOut g v out
+IsEdgeOut-first g v None none = is_sink-from_none g v none
+IsEdgeOut-first g v (Some e) first = (first.1, first.2)
+
+pub IsEdgeInto-first : (g : Graph) (v : ℕ) (into : Option ℕ) → IsFirstInto g v 0 into → IsEdgeInto g v into
+IsEdgeInto-first g v None none = is_source-from_none g v none
+IsEdgeInto-first g v (Some e) first = (first.1, first.2)

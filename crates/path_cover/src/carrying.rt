@@ -8,47 +8,51 @@ ghost use Rattle.path_cover.specs.Entering.{EnterFrom};
 ghost use Rattle.path_cover.specs.Search.{is_set};
 
 use crate::entering::Entering;
+use crate::ways::{edge_back, edge_onward};
 use dag_net::Net;
 use std::alloc::{AllocError, Global};
 
 /// Sends one unit more from `v` on to a sink.
-fn send_on(net: &Net, flow: &mut [u64], v: u32)
+fn send_on(net: &Net, needed: &[bool], flow: &mut [u64], v: u32)
     requires net { IsNet net.now }
     requires vertex { v < net.now.vertices }
+    requires needed { length needed.now ≡ edge_count net.now }
     requires one_each { length flow.old ≡ edge_count net.now }
     requires small { (e : ℕ) → slice_index flow.old e + net.now.vertices < 2 ^ 64 }
     ensures more { IsMore (slice_index flow.old) (slice_index flow.new) net.now.vertices }
     ensures sent { IsSentOn net.now (slice_index flow.old) (slice_index flow.new) v }
 {
     let mut at = v;
-    while let Some(e) = net.first_out(at) {
+    while let Some(e) = edge_onward(net, needed, flow, at) {
         flow[e as usize] += 1;
         at = net.head(e);
     }
 }
 
 /// Brings one unit more from a source to `v`.
-fn bring_in(net: &Net, entering: &Entering, flow: &mut [u64], v: u32)
+fn bring_in(net: &Net, entering: &Entering, needed: &[bool], flow: &mut [u64], v: u32)
     requires net { IsNet net.now }
     requires vertex { v < net.now.vertices }
     requires entering { EnterFrom net.now 0 entering.now.first.items entering.now.next.items }
+    requires needed { length needed.now ≡ edge_count net.now }
     requires one_each { length flow.old ≡ edge_count net.now }
     requires small { (e : ℕ) → slice_index flow.old e + net.now.vertices < 2 ^ 64 }
     ensures more { IsMore (slice_index flow.old) (slice_index flow.new) net.now.vertices }
     ensures brought { IsBroughtIn net.now (slice_index flow.old) (slice_index flow.new) v }
 {
     let mut at = v;
-    while let Some(e) = entering.first[at as usize] {
+    while let Some(e) = edge_back(net, entering, needed, flow, at) {
         flow[e as usize] += 1;
         at = net.tail(e);
     }
 }
 
 /// Sends one unit along a path through the edge.
-fn send_through(net: &Net, entering: &Entering, flow: &mut [u64], e: u32)
+fn send_through(net: &Net, entering: &Entering, needed: &[bool], flow: &mut [u64], e: u32)
     requires net { IsNet net.now }
     requires edge { e < edge_count net.now }
     requires entering { EnterFrom net.now 0 entering.now.first.items entering.now.next.items }
+    requires needed { length needed.now ≡ edge_count net.now }
     requires one_each { length flow.old ≡ edge_count net.now }
     requires vertices { net.now.vertices ≤ 8192 }
     requires small { (d : ℕ) → slice_index flow.old d < 2 ^ 63 }
@@ -57,8 +61,8 @@ fn send_through(net: &Net, entering: &Entering, flow: &mut [u64], e: u32)
     ensures balanced { IsBalanced net.now (slice_index flow.old) → IsBalanced net.now (slice_index flow.new) }
 {
     flow[e as usize] += 1;
-    send_on(net, flow, net.head(e));
-    bring_in(net, entering, flow, net.tail(e));
+    send_on(net, needed, flow, net.head(e));
+    bring_in(net, entering, needed, flow, net.tail(e));
 }
 
 /// Sends a unit through the edge where it is needed and has no flow yet.
@@ -75,7 +79,7 @@ fn carry(net: &Net, entering: &Entering, needed: &[bool], flow: &mut [u64], e: u
     ensures balanced { IsBalanced net.now (slice_index flow.old) → IsBalanced net.now (slice_index flow.new) }
 {
     if needed[e as usize] && flow[e as usize] == 0 {
-        send_through(net, entering, flow, e);
+        send_through(net, entering, needed, flow, e);
     }
 }
 

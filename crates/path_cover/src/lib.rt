@@ -11,3 +11,4 @@ mod found;
 mod lessening;
 mod search;
 mod splitting;
+mod ways;
