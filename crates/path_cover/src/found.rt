@@ -1,3 +1,5 @@
+//! What shows a width.
+
 use dag_net::{IdLists, Ids};
 
 /// The fewest paths that have every needed edge, and as many needed edges of which no two lie on one path.
