@@ -5,7 +5,7 @@ use Rattle.std.proofs.lemmas.Bool.{cases_eq, not-true}
 use Rattle.decomposition.specs.Graph.{Graph, edge_count, tail, head, is_source, is_sink}
 use Rattle.decomposition.specs.Answer.{sum_below}
 use Rattle.decomposition.proofs.Flows.{tail-no_sink}
-use Rattle.path_cover.specs.Carrying.{least_flow, IsCarrying, IsBalancedBut, arriving}
+use Rattle.path_cover.specs.Carrying.{least_flow, most_at_first, IsCarrying, IsBalancedBut, arriving}
 use Rattle.path_cover.specs.Search.{entry_at, IsStepFrom, IsReached, IsSearch, EndsAt}
 use Rattle.path_cover.specs.declared.search.Reached.{Reached}
 use Rattle.path_cover.specs.declared.search.Search.{Search}
@@ -138,7 +138,7 @@ module _ (g : Graph) (needed : ℕ → Bool) (old : ℕ → ℕ) (entries : List
 -- a flow that was lessened, and the latest search
 pub record Lessens (g : Graph) (needed : ℕ → Bool) (old flow : ℕ → ℕ) (found : Search) : Type 0 where
   pub carrying : IsCarrying g needed flow
-  pub small : (e : ℕ) → flow e + 8192 * arriving g flow ≤ 67112960 + 8192 * arriving g old
+  pub small : (e : ℕ) → flow e + 8192 * arriving g flow ≤ most_at_first + 8192 * arriving g old
   pub search : IsSearch g needed flow found.entries.items found.marked.items
   pub ends : EndsAt g needed flow found.entries.items found.marked.items found.sink
 
@@ -147,8 +147,8 @@ pub sum_below-small : (f : ℕ → ℕ) (c n : ℕ) → ((k : ℕ) → f k ≤ c
 sum_below-small f c zero h = omega arith
 sum_below-small f c (suc n) h = omega (arith, h n, sum_below-small f c n h)
 
-pub arriving-small : (g : Graph) (flow : ℕ → ℕ) → edge_count g ≤ 4096 → ((e : ℕ) → flow e ≤ 67112960) → arriving g flow ≤ 274894684160
-arriving-small g flow few small = omega (arith, sum_below-small (λ e. cond (is_sink g (head g e)) (flow e) 0) 67112960 (edge_count g) (λ e. at (is_sink g (head g e)) (flow e) (small e))) where
-  at : (b : Bool) (x : ℕ) → x ≤ 67112960 → cond b x 0 ≤ 67112960
+pub arriving-small : (g : Graph) (flow : ℕ → ℕ) → edge_count g ≤ 4096 → ((e : ℕ) → flow e ≤ most_at_first) → arriving g flow ≤ 274894684160
+arriving-small g flow few small = omega (arith, sum_below-small (λ e. cond (is_sink g (head g e)) (flow e) 0) most_at_first (edge_count g) (λ e. at (is_sink g (head g e)) (flow e) (small e))) where
+  at : (b : Bool) (x : ℕ) → x ≤ most_at_first → cond b x 0 ≤ most_at_first
   at true x h = h
   at false x h = omega arith

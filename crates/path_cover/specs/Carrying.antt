@@ -13,6 +13,10 @@ pub record IsCarrying (g : Graph) (needed : ℕ → Bool) (flow : ℕ → ℕ) :
   pub balanced : IsBalanced g flow
   pub enough : (e : ℕ) → e < edge_count g → least_flow needed e ≤ flow e
 
+-- no edge of a first flow has more: at most 16,385 units for each of 4,096 edges
+abbrev pub most_at_first : ℕ
+most_at_first = 67112960
+
 -- how much flow enters the sinks
 abbrev pub arriving : Graph → (ℕ → ℕ) → ℕ
 arriving g flow = sum_below (λ e. cond (is_sink g (head g e)) (flow e) 0) (edge_count g)

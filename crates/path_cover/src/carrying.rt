@@ -3,7 +3,7 @@
 ghost use Rattle.std.specs.Prelude.{◌≡◌, ℕ, ◌+◌, ◌*◌, ◌<◌, ◌≤◌, ◌^◌, length, slice_index, vec_len, IfOk};
 ghost use Rattle.decomposition.specs.Graph.{edge_count, tail, head, IsNet};
 ghost use Rattle.decomposition.specs.Flow.{IsBalanced};
-ghost use Rattle.path_cover.specs.Carrying.{least_flow, IsCarrying, IsMore, IsSentOn, IsBroughtIn};
+ghost use Rattle.path_cover.specs.Carrying.{least_flow, IsCarrying, most_at_first, IsMore, IsSentOn, IsBroughtIn};
 ghost use Rattle.path_cover.specs.Entering.{EnterFrom};
 ghost use Rattle.path_cover.specs.Search.{is_set};
 
@@ -47,7 +47,7 @@ fn bring_in(net: &Net, entering: &Entering, needed: &[bool], flow: &mut [u64], v
     }
 }
 
-/// Sends one unit along a path through the edge.
+/// Sends one unit along a path through the edge. No path has more than 16,384 other edges: one for each vertex, on both sides.
 fn send_through(net: &Net, entering: &Entering, needed: &[bool], flow: &mut [u64], e: u32)
     requires net { IsNet net.now }
     requires edge { e < edge_count net.now }
@@ -96,7 +96,7 @@ pub fn first_flow(
     requires vertices { net.now.vertices ≤ 8192 }
     ensures one_each { IfOk result (λ flow. length flow.items ≡ edge_count net.now) }
     ensures carrying { IfOk result (λ flow. IsCarrying net.now (is_set needed.now) (slice_index flow.items)) }
-    ensures small { IfOk result (λ flow. (e : ℕ) → slice_index flow.items e ≤ 67112960) }
+    ensures small { IfOk result (λ flow. (e : ℕ) → slice_index flow.items e ≤ most_at_first) }
 {
     let mut flow = vec![in alloc; 0; net.edges() as usize]?;
     for e in 0..net.edges() {

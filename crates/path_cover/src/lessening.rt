@@ -2,7 +2,7 @@
 
 ghost use Rattle.std.specs.Prelude.{◌≡◌, ℕ, ◌+◌, ◌<◌, ◌≤◌, ◌^◌, length, slice_index, vec_len, IsTrue, IfOk, OnOk};
 ghost use Rattle.decomposition.specs.Graph.{edge_count, is_sink, IsNet};
-ghost use Rattle.path_cover.specs.Carrying.{IsCarrying, arriving};
+ghost use Rattle.path_cover.specs.Carrying.{IsCarrying, most_at_first, arriving};
 ghost use Rattle.path_cover.specs.Cut.{IsClosed};
 ghost use Rattle.path_cover.specs.Entering.{EnterFrom};
 ghost use Rattle.path_cover.specs.Search.{is_set, entry_at, IsSearch};
@@ -51,7 +51,7 @@ pub fn lessen(
     requires one_each { length flow.old ≡ edge_count net.now }
     requires vertices { net.now.vertices ≤ 8192 }
     requires edges { edge_count net.now ≤ 4096 }
-    requires small { (e : ℕ) → slice_index flow.old e ≤ 67112960 }
+    requires small { (e : ℕ) → slice_index flow.old e ≤ most_at_first }
     requires carrying { IsCarrying net.now (is_set needed.now) (slice_index flow.old) }
     ensures carrying { OnOk result (IsCarrying net.now (is_set needed.now) (slice_index flow.new)) }
     ensures closed { IfOk result (λ marked. IsClosed net.now (is_set needed.now) (slice_index flow.new) (is_set marked.items)) }
