@@ -1,7 +1,7 @@
 -- Equal paths made one.
-use Rattle.std.proofs.Common.{◌≡◌, ◌≢◌, ℕ, zero, suc, ◌+◌, ◌<◌, ◌≤◌, ◌++◌, ◌∷◌, [], List, false, cond, nat_lt, length, get_or, slice_set, refl, sym, ap, subst, ◌∙◌, inl, inr, arith, Bool, lt-ltb, ◌||◌}
+use Rattle.std.proofs.Common.{◌≡◌, ℕ, suc, ◌+◌, ◌<◌, ◌≤◌, ◌++◌, ◌∷◌, [], List, cond, nat_lt, length, get_or, slice_set, refl, sym, ap, ◌∙◌, inl, inr, arith, Bool, lt-ltb, ◌||◌}
 use Rattle.std.specs.Prelude.{All, ◌==◌}
-use Rattle.std.specs.List.{IsDistinct, AllByRecursion, list_any}
+use Rattle.std.specs.List.{IsDistinct, list_any}
 use Rattle.std.specs.List.Sorted.{IsPermutation}
 use Rattle.std.specs.Cmp.Lexicographic.{pointwise}
 use Rattle.std.proofs.lemmas.Bool.{cases_Bool, cond-true, cond-false}
@@ -10,7 +10,6 @@ use Rattle.std.proofs.lemmas.List.Elements.{All-set, All-push, All-contains, Con
 use Rattle.std.proofs.lemmas.List.Sorted.{sum_by-IsPermutation, All-permutation}
 use Rattle.std.proofs.lemmas.List.Sums.{sum_by-set, sum_by_push, sum_by-cons}
 use Rattle.std.proofs.lemmas.Map.Keys.{IsDistinct-IsPermutation}
-use Rattle.std.proofs.lemmas.Slice.Eq.{bytes_eq-Decides}
 use Rattle.decomposition.specs.Graph.{has_edge}
 use Rattle.decomposition.specs.Answer.{weight_on}
 use Rattle.decomposition.specs.Answer.{IsMerged}
@@ -21,33 +20,6 @@ use Rattle.decomposition.specs.Answer.{HaveSamePaths}
 use Rattle.dag_net.specs.Merge.{weight_where, AddsWeight, Merges}
 use Rattle.decomposition.specs.Answer.{same_path}
 use Rattle.decomposition.proofs.Merging.{weight_on-where, weight_of-where}
-
--- what holds of each path holds so after a change of a weight
-kept-set : (P : List ℕ → Type 0) (xs : List (List ℕ × ℕ)) (i w : ℕ) (x : List ℕ × ℕ) → i < length xs → x ≡ get_or xs i x
-    → AllByRecursion (λ y. P y.0) xs → AllByRecursion (λ y. P y.0) (slice_set xs i (x.0, w))
-kept-set P [] i w x there read h = absurd (omega arith)
-kept-set P (y ∷ ys) zero w x there read h = (subst P (ap (λ (z : List ℕ × ℕ). z.0) (sym read)) h.0, h.1)
-kept-set P (y ∷ ys) (suc i) w x there read h = (h.0, kept-set P ys i w x (omega arith) read h.1)
-
-distinct-set : (xs : List (List ℕ × ℕ)) (i w : ℕ) (x : List ℕ × ℕ) → i < length xs → x ≡ get_or xs i x → IsDistinct same_path xs → IsDistinct same_path (slice_set xs i (x.0, w))
-unfolding IsDistinct
-distinct-set [] i w x there read h = absurd (omega arith)
-distinct-set (y ∷ ys) zero w x there read h =
-    (subst (λ p. AllByRecursion (λ (z : List ℕ × ℕ). pointwise (λ d e. d == e) p z.0 ≡ false) ys) (ap (λ (z : List ℕ × ℕ). z.0) (sym read)) h.0, h.1)
-distinct-set (y ∷ ys) (suc i) w x there read h =
-    (kept-set (λ p. pointwise (λ d e. d == e) y.0 p ≡ false) ys i w x (omega arith) read h.0, distinct-set ys i w x (omega arith) read h.1)
-
-kept-push : (P : List ℕ × ℕ → Type 0) (xs : List (List ℕ × ℕ)) (x : List ℕ × ℕ) → AllByRecursion P xs → P x → AllByRecursion P (xs ++ x ∷ [])
-kept-push P [] x h new = (new, tt)
-kept-push P (y ∷ ys) x h new = (h.0, kept-push P ys x h.1 new)
-
-distinct-push : (xs : List (List ℕ × ℕ)) (x : List ℕ × ℕ) → IsDistinct same_path xs → All (λ entry. entry.0 ≢ x.0) xs → IsDistinct same_path (xs ++ x ∷ [])
-unfolding IsDistinct
-distinct-push [] x h fresh = (tt, tt)
-distinct-push (y ∷ ys) x h fresh =
-    let other : same_path y x ≡ false
-    = elim (cases_Bool (same_path y x)) [ inl same ↦ absurd (fresh 0 y (omega arith) ((bytes_eq-Decides y.0 x.0).0 same)) | inr apart ↦ apart ] in
-    (kept-push (λ z. same_path y z ≡ false) ys x h.0 other, distinct-push ys x h.1 (λ k d there. fresh (suc k) d (omega arith)))
 
 module _ (entries : List (List ℕ × ℕ)) (path : List ℕ) (weight : ℕ) where
   -- more weight in an entry of the path
@@ -62,16 +34,14 @@ module _ (entries : List (List ℕ × ℕ)) (path : List ℕ) (weight : ℕ) whe
           | inr free ↦ omega (arith, set, here, cond-false (test x.0) x.1 0 free, cond-false (test x.0) (x.1 + weight) 0 free, cond-false (test path) weight 0 (on_path ∙ free))
         ];
     total_more = omega (arith, sum_by-set (λ (entry : List ℕ × ℕ). entry.1) entries i (x.0, x.1 + weight) x there, ap (λ (entry : List ℕ × ℕ). entry.1) read);
-    once = λ h. distinct-set entries i (x.1 + weight) x there read h;
     positive = λ w h. All-set (λ entry. 1 ≤ entry.1) entries i (x.0, x.1 + weight) (omega arith) h;
   }
 
-  -- a new entry for a path that has none
-  pub AddsWeight-push : All (λ entry. entry.0 ≢ path) entries → AddsWeight entries (entries ++ (path, weight) ∷ []) path weight
-  AddsWeight-push fresh = record {
+  -- a new entry for the path
+  pub AddsWeight-push : AddsWeight entries (entries ++ (path, weight) ∷ []) path weight
+  AddsWeight-push = record {
     sums = λ test. sum_by_push (λ (entry : List ℕ × ℕ). cond (test entry.0) entry.1 0) entries (path, weight);
     total_more = sum_by_push (λ (entry : List ℕ × ℕ). entry.1) entries (path, weight);
-    once = λ h. distinct-push entries (path, weight) h fresh;
     positive = λ w h. All-push (λ entry. 1 ≤ entry.1) entries (path, weight) h w;
   }
 
@@ -84,12 +54,21 @@ Merges-permuted old new moved m p = record {
   positive = λ h. All-permutation (λ entry. 1 ≤ entry.1) new moved p (m.positive h);
 }
 
+-- what is merged from entries in another order
+pub Merges-of_permuted : (old moved new : List (List ℕ × ℕ)) → IsPermutation old moved → Merges moved new → Merges old new
+Merges-of_permuted old moved new p m = record {
+  sums = λ test. m.sums test ∙ sum_by-IsPermutation (λ entry. cond (test entry.0) entry.1 0) old moved p;
+  total_kept = m.total_kept ∙ sum_by-IsPermutation (λ entry. entry.1) old moved p;
+  once = m.once;
+  positive = λ h. m.positive (All-permutation (λ entry. 1 ≤ entry.1) old moved p h);
+}
+
 -- what is merged adds up to what was merged and the entry
-pub Merges-more : (old merged new : List (List ℕ × ℕ)) (path : List ℕ) (weight : ℕ) → Merges old merged → AddsWeight merged new path weight → Merges (old ++ (path, weight) ∷ []) new
-Merges-more old merged new path weight m a = record {
+pub Merges-more : (old merged new : List (List ℕ × ℕ)) (path : List ℕ) (weight : ℕ) → Merges old merged → AddsWeight merged new path weight → IsDistinct same_path new → Merges (old ++ (path, weight) ∷ []) new
+Merges-more old merged new path weight m a once = record {
   sums = λ test. omega (arith, a.sums test, m.sums test, sum_by_push (λ (entry : List ℕ × ℕ). cond (test entry.0) entry.1 0) old (path, weight));
   total_kept = omega (arith, a.total_more, m.total_kept, sum_by_push (λ (entry : List ℕ × ℕ). entry.1) old (path, weight));
-  once = a.once m.once;
+  once = once;
   positive = λ h.
       a.positive
       (All-contains (λ entry. 1 ≤ entry.1) (old ++ (path, weight) ∷ []) (path, weight) h (Contains-append_right old ((path, weight) ∷ []) (path, weight) (Contains-head (path, weight) [])))

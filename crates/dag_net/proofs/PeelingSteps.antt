@@ -1,11 +1,10 @@
 -- One edge taken away, and what is left when no more can be.
-use Rattle.std.proofs.Common.{◌≡◌, ◌≢◌, ◌==◌, ℕ, zero, suc, ◌+◌, ◌-◌, ◌<◌, ◌≤◌, ◌&&◌, ◌||◌, ◌++◌, ◌∷◌, [], List, Bool, true, false, not, eqb, nat_lt, cond, Option, Some, None, MatchOption, true≢false, ltb-true, lt-ltb, length, length-append, get_or, slice_index, slice_set, take, refl, sym, ap, subst, ◌∙◌, inl, inr, arith, get_or-set_same, get_or-set_other, eq-eqb, eqb-true}
+use Rattle.std.proofs.Common.{◌≡◌, ◌≢◌, ◌==◌, ℕ, zero, suc, ◌+◌, ◌<◌, ◌≤◌, ◌&&◌, ◌||◌, ◌++◌, ◌∷◌, [], List, Bool, true, false, not, eqb, nat_lt, cond, ltb-true, length, length-append, get_or, slice_index, slice_set, take, refl, sym, ap, subst, ◌∙◌, inl, inr, arith, get_or-set_same, get_or-set_other, eq-eqb, eqb-true}
 use Rattle.std.specs.Prelude.{All}
-use Rattle.std.specs.Option.{option_map_or}
 use Rattle.std.specs.List.{IsDistinct}
-use Rattle.std.proofs.lemmas.Bool.{cases_Bool, cases_eq, cases_lt, ne_eqb, cond-true, cond-false, and_from, and_parts, or_cases, or_right, both_ways, not-true}
+use Rattle.std.proofs.lemmas.Bool.{cases_Bool, cases_eq, cases_lt, ne_eqb, cond-false, and_parts, or_cases, or_right, both_ways, not-true}
 use Rattle.std.proofs.lemmas.Cmp.{nat_eq_equiv}
-use Rattle.std.proofs.lemmas.List.{length-set, get_or_read, get_or_append_left, get_or-take, length-take-le, take-append-le, take_more}
+use Rattle.std.proofs.lemmas.List.{length-set, get_or_append_left, get_or-take, length-take-le}
 use Rattle.std.proofs.lemmas.List.Folds.{list_any-append}
 use Rattle.std.proofs.lemmas.Bool.Decides.{Decides-eqb}
 use Rattle.std.proofs.lemmas.Map.Keys.{IsDistinct-push}
@@ -18,9 +17,12 @@ use Rattle.decomposition.proofs.Sums.{le-sum_below, sum_below-same, sum_below-on
 use Rattle.decomposition.proofs.Walks.{walk-from_step, walk-length}
 use Rattle.decomposition.proofs.Nets.{edge_number}
 use Rattle.dag_net.specs.Build.{IsInside}
-use Rattle.dag_net.specs.Chain.{IsFirstOut, ChainFrom}
 use Rattle.dag_net.specs.Order.{IsOrder}
-use Rattle.dag_net.specs.Peeling.{is_listed, entering, Peels, PeelsTo, IsEnteringCount, AreSourcesBelow}
+use Rattle.dag_net.specs.Peeling.{is_listed, entering, Peels, PeelsTo}
+
+-- no number is below a lesser one
+pub not_less : (d e : ℕ) → e ≤ d → nat_lt d e ≡ false
+not_less d e h = elim (cases_Bool (nat_lt d e)) [ inl less ↦ absurd (omega (arith, ltb-true d e less)) | inr is ↦ is ]
 
 -- what is gone counts edge by edge alone
 pub Peels-same : (g : Graph) (gone later : ℕ → Bool) (waiting order : List ℕ) → ((d : ℕ) → d < edge_count g → gone d ≡ later d) → Peels g gone waiting order → Peels g later waiting order
@@ -35,7 +37,7 @@ Peels-same g gone later waiting order same p = record {
 }
 
 -- a vertex is in a list with one more exactly where it was, or is that one
-listed-other : (order : List ℕ) (u v : ℕ) → v ≢ u → is_listed (order ++ u ∷ []) v ≡ is_listed order v
+pub listed-other : (order : List ℕ) (u v : ℕ) → v ≢ u → is_listed (order ++ u ∷ []) v ≡ is_listed order v
 listed-other order u v other =
     list_any-append (λ w. v == w) order (u ∷ [])
     ∙ elim (cases_Bool (is_listed order v)) [ inl h ↦ rw h refl | inr h ↦ rw (h, ne_eqb v u other) refl ]
@@ -172,30 +174,6 @@ module _ (g : Graph) (gone : ℕ → Bool) (waiting order : List ℕ) (p : Peels
       (walk-from_step g (tail g e.0) e.0 es (record { inside = e.1; leaves = refl; rest = subst (λ x. is_walk_from g x es ≡ true) (sym e.2) walk }))
       (inside e.0 e.1) e.3 (omega arith)
 
--- no vertex is taken yet
-pub Peels-first : (g : Graph) (waiting order : List ℕ) → IsEnteringCount g waiting → AreSourcesBelow waiting (length waiting) order → PeelsTo g 0 waiting order
-Peels-first g waiting order counted sources = record {
-  room = counted.room;
-  counts = λ v h. counted.at v h ∙ sum_below-same (λ d. cond (head g d == v) 1 0) (λ d. cond ((head g d == v) && true) 1 0) (edge_count g)
-      (λ d _. elim (cases_Bool (head g d == v)) [ inl is ↦ rw is refl | inr is ↦ rw is refl ]);
-  listed = λ v h. sources.listed v ∙ ap (λ b. b && (slice_index waiting v == 0)) (lt-ltb v (length waiting) (omega (arith, counted.room)));
-  below = λ v is. omega (arith, counted.room, ltb-true v (length waiting) (and_parts (nat_lt v (length waiting)) (slice_index waiting v == 0) (sym (sources.listed v) ∙ is)).0);
-  distinct = sources.distinct;
-  forward = λ d j there within at.
-      let v = head g d in
-      let listed : is_listed order v ≡ true = any-from_place (λ w. v == w) order 0 j within (eq-eqb v (slice_index order j) (sym at)) in
-      let parts = and_parts (nat_lt v (length waiting)) (slice_index waiting v == 0) (sym (sources.listed v) ∙ listed) in
-      let one : ◌≡◌ {A = ℕ} (cond (head g d == v) 1 0) 1 = rw (eq-eqb v v refl) refl in
-      absurd (omega (
-        arith,
-        eqb-true (slice_index waiting v) 0 parts.1,
-        counted.at v (omega (arith, counted.room, ltb-true v (length waiting) parts.0)),
-        le-sum_below (λ e. cond (head g e == v) 1 0) (edge_count g) d there,
-        one,
-      ));
-  begun = λ d there is. absurd (true≢false (sym is));
-}
-
 -- no more vertices are listed than there are
 pub Peels-few : (g : Graph) (gone : ℕ → Bool) (waiting order : List ℕ) → Peels g gone waiting order → length order ≤ g.vertices
 Peels-few g gone waiting order p = length-le_from_distinct_below order g.vertices p.distinct p.below
@@ -250,190 +228,3 @@ none-from_peels g waiting order p few inside net =
           (λ d there. (inside d (0, 0) there).0) net (edge_count g + 1) q [] refl h free (omega arith))
     ]) in
     omega (arith, all)
-
--- the edges that are gone while the edges of v are taken: those of the vertices before v, and those of v before place `to`
-abbrev pub gone_to : Graph → List ℕ → ℕ → ℕ → ℕ → Bool
-gone_to g done v to d = is_listed done (tail g d) || ((tail g d == v) && nat_lt d to)
-
--- the edges of v, the vertex at place k, are taken up to the cursor
-pub record Takes (g : Graph) (k v : ℕ) (old : List ℕ) (out : Option ℕ) (waiting order : List ℕ) : Type 0 where
-  pub front : take k order ≡ take k old
-  pub place : slice_index order k ≡ v
-  pub longer : length old ≤ length order
-  pub peels : Peels g (gone_to g (take k old) v (option_map_or (λ e. e) out (edge_count g))) waiting order
-  pub at : MatchOption out (Unit {0}) (λ e. (e < edge_count g) × (tail g e ≡ v))
-
-or_nothing : (a b : Bool) → b ≡ false → a ≡ (a || b)
-or_nothing a b none = elim (cases_Bool a) [ inl h ↦ rw h refl | inr h ↦ rw (h, none) refl ]
-
-not_less : (d e : ℕ) → e ≤ d → nat_lt d e ≡ false
-not_less d e h = elim (cases_Bool (nat_lt d e)) [ inl less ↦ absurd (omega (arith, ltb-true d e less)) | inr is ↦ is ]
-
--- none of the edges of v is taken yet
-none_gone : (g : Graph) (v : ℕ) (out : Option ℕ) → IsFirstOut g v 0 out → (d : ℕ) → d < edge_count g → ((tail g d == v) && nat_lt d (option_map_or (λ e. e) out (edge_count g))) ≡ false
-none_gone g v None none d there = rw (ne_eqb (tail g d) v (none d (omega arith) there)) refl
-none_gone g v (Some e) first d there =
-    elim (cases_lt d e) [
-      | inl less ↦ rw (ne_eqb (tail g d) v (first.3 d (omega arith) less)) refl
-      | inr more ↦ elim (cases_Bool (tail g d == v)) [ inl h ↦ rw (h, not_less d e more) refl | inr h ↦ rw h refl ]
-    ]
-
-at_cursor : (g : Graph) (v from : ℕ) (out : Option ℕ) → IsFirstOut g v from out → MatchOption out (Unit {0}) (λ e. (e < edge_count g) × (tail g e ≡ v))
-at_cursor g v from None first = tt
-at_cursor g v from (Some e) first = (first.1, first.2)
-
-pub Takes-first : (g : Graph) (k : ℕ) (out : Option ℕ) (waiting order : List ℕ) → PeelsTo g k waiting order → IsFirstOut g (slice_index order k) 0 out → Takes g k (slice_index order k) order out waiting order
-Takes-first g k out waiting order p first = record {
-  front = refl;
-  place = refl;
-  longer = omega arith;
-  peels =
-      Peels-same g (λ d. is_listed (take k order) (tail g d)) (gone_to g (take k order) (slice_index order k) (option_map_or (λ e. e) out (edge_count g))) waiting order
-      (λ d there. or_nothing (is_listed (take k order) (tail g d)) _ (none_gone g (slice_index order k) out first d there)) p;
-  at = at_cursor g (slice_index order k) 0 out first;
-}
-
--- the cursor stands behind the edge before it
-past_cursor : (g : Graph) (v e : ℕ) (out : Option ℕ) → e < edge_count g → IsFirstOut g v (e + 1) out → e < option_map_or (λ f. f) out (edge_count g)
-past_cursor g v e None there next = there
-past_cursor g v e (Some f) there next = omega (arith, next.0)
-
--- no edge of v stands between them
-beyond : (g : Graph) (v e : ℕ) (out : Option ℕ) (d : ℕ) → d < edge_count g → e < d → tail g d ≡ v → IsFirstOut g v (e + 1) out → nat_lt d (option_map_or (λ f. f) out (edge_count g)) ≡ false
-beyond g v e None d there less leaves next = absurd (next d (omega arith) there leaves)
-beyond g v e (Some f) d there less leaves next =
-    elim (cases_lt d f) [ inl between ↦ absurd (next.3 d (omega arith) between leaves) | inr more ↦ not_less d f more ]
-
--- the edge behind another, as the chain has it
-pub IsFirstOut-next : (g : Graph) (v e : ℕ) (first next : List (Option ℕ)) (found : Option ℕ) → ChainFrom g 0 first next → e < edge_count g → tail g e ≡ v → found ≡ get_or next e found → IsFirstOut g v (e + 1) found
-IsFirstOut-next g v e first next found chains there leaves read =
-    let at : found ≡ get_or next e None = get_or_read next e found (omega (arith, chains.edges_count)) read None in
-    subst (λ u. IsFirstOut g u (e + 1) found) leaves (subst (IsFirstOut g (tail g e) (e + 1)) (sym at) (chains.nexts e (omega arith) there))
-
--- less is left behind the cursor
-pub cursor-falls : (g : Graph) (v e : ℕ) (next : Option ℕ) → e < edge_count g → IsFirstOut g v (e + 1) next → option_map_or (λ f. edge_count g - f) next 0 < edge_count g - e
-cursor-falls g v e None there next = omega arith
-cursor-falls g v e (Some f) there next = omega (arith, next.0)
-
--- one edge more of v is taken
-one_gone : (g : Graph) (v e : ℕ) (out : Option ℕ) → e < edge_count g → tail g e ≡ v → IsFirstOut g v (e + 1) out → (d : ℕ) → d < edge_count g
-    → (((tail g d == v) && nat_lt d e) || (d == e)) ≡ ((tail g d == v) && nat_lt d (option_map_or (λ f. f) out (edge_count g)))
-one_gone g v e out e_there leaves next d there =
-    let cursor = option_map_or (λ f. f) out (edge_count g) in
-    let past : e < cursor = past_cursor g v e out e_there next in
-    elim (cases_eq d e) [
-      | inl same ↦
-          or_right ((tail g d == v) && nat_lt d e) (d == e) (eq-eqb d e same)
-          ∙ sym (and_from (tail g d == v) (nat_lt d cursor) (eq-eqb (tail g d) v (ap (tail g) same ∙ leaves)) (lt-ltb d cursor (omega (arith, past))))
-      | inr other ↦
-          sym (or_nothing ((tail g d == v) && nat_lt d e) (d == e) (ne_eqb d e other))
-          ∙ elim (cases_eq (tail g d) v) [
-            | inl from_v ↦ elim (cases_lt d e) [
-              | inl less ↦ ap (λ b. (tail g d == v) && b) (lt-ltb d e less ∙ sym (lt-ltb d cursor (omega (arith, past))))
-              | inr more ↦ ap (λ b. (tail g d == v) && b) (not_less d e more ∙ sym (beyond g v e out d there (omega arith) from_v next))
-            ]
-            | inr apart ↦ rw (ne_eqb (tail g d) v apart) refl
-          ]
-    ]
-
-or_regroup : (a b c d : Bool) → (b || c) ≡ d → ((a || b) || c) ≡ (a || d)
-or_regroup a b c d same = elim (cases_Bool a) [ inl h ↦ rw h refl | inr h ↦ rw h same ]
-
-module _ (g : Graph) (k v e : ℕ) (old waiting order : List ℕ) (within : k < length old) (t : Takes g k v old (Some e) waiting order) (inside : All (IsInside g.vertices) g.edges) where
-  free : is_listed (take k old) (tail g e) ≡ false
-  free = subst (λ xs. is_listed xs (tail g e) ≡ false) t.front (subst (λ u. is_listed (take k order) u ≡ false) (t.place ∙ sym t.at.1) (fresh-place order k t.peels.distinct (omega (arith, t.longer))))
-
-  left : gone_to g (take k old) v e e ≡ false
-  left = rw (free, eq-eqb (tail g e) v t.at.1, not_less e e (omega arith)) refl
-
-  pub Takes-waits : 1 ≤ slice_index waiting (head g e)
-  Takes-waits =
-      let one : ◌≡◌ {A = ℕ} (cond ((head g e == head g e) && not (gone_to g (take k old) v e e)) 1 0) 1
-      = ap (λ b. cond ((head g e == head g e) && not b) 1 0) left ∙ ap (λ b. cond (b && true) 1 0) (eq-eqb (head g e) (head g e) refl) in
-      omega (arith, t.peels.counts (head g e) (inside e (0, 0) t.at.0).1, le-sum_below (λ d. cond ((head g d == head g e) && not (gone_to g (take k old) v e d)) 1 0) (edge_count g) e t.at.0, one)
-
-  from_listed : is_listed order (tail g e) ≡ true
-  from_listed = any-from_place (λ z. tail g e == z) order 0 k (omega (arith, t.longer)) (eq-eqb (tail g e) (slice_index order k) (t.at.1 ∙ sym t.place))
-
-  step : (next : Option ℕ) (waiting' order' : List ℕ) → IsFirstOut g v (e + 1) next → take k order' ≡ take k old → slice_index order' k ≡ v → length old ≤ length order'
-      → Peels g (λ x. gone_to g (take k old) v e x || (x == e)) waiting' order' → Takes g k v old next waiting' order'
-  step next waiting' order' first front place longer p = record {
-    front = front;
-    place = place;
-    longer = longer;
-    peels =
-        Peels-same g (λ x. gone_to g (take k old) v e x || (x == e)) (gone_to g (take k old) v (option_map_or (λ f. f) next (edge_count g))) waiting' order'
-        (λ d there. or_regroup (is_listed (take k old) (tail g d)) ((tail g d == v) && nat_lt d e) (d == e) ((tail g d == v) && nat_lt d (option_map_or (λ f. f) next (edge_count g))) (one_gone g v e next t.at.0 t.at.1 first d there)) p;
-    at = at_cursor g v (e + 1) next first;
-  }
-
-  -- the edge at the cursor is taken
-  pub Takes-more : (next : Option ℕ) (waiting' order' : List ℕ) → IsFirstOut g v (e + 1) next → waiting' ≡ slice_set waiting (head g e) (slice_index waiting (head g e) - 1)
-      → order' ≡ cond (slice_index waiting (head g e) == 1) (order ++ head g e ∷ []) order → Takes g k v old next waiting' order'
-  Takes-more next waiting' order' first waits lists =
-      let w = slice_index waiting (head g e) - 1 in
-      let one_less : w + 1 ≡ slice_index waiting (head g e) = omega (arith, Takes-waits) in
-      let gone = gone_to g (take k old) v e in
-      let low : head g e < g.vertices = (inside e (0, 0) t.at.0).1 in
-      subst (λ ws. Takes g k v old next ws order') (sym waits)
-      (elim (cases_eq (slice_index waiting (head g e)) 1) [
-        | inl last ↦
-            let now : order' ≡ order ++ head g e ∷ [] = lists ∙ cond-true (slice_index waiting (head g e) == 1) (order ++ head g e ∷ []) order (eq-eqb (slice_index waiting (head g e)) 1 last) in
-            subst (λ os. Takes g k v old next (slice_set waiting (head g e) w) os) (sym now)
-            (step next (slice_set waiting (head g e) w) (order ++ head g e ∷ []) first
-            (take-append-le k order (head g e ∷ []) (omega (arith, t.longer)) ∙ t.front)
-            (get_or_append_left order (head g e ∷ []) 0 k (omega (arith, t.longer)) ∙ t.place)
-            (omega (arith, t.longer, length-append order (head g e ∷ [])))
-            (Peels-lists g gone waiting order t.peels e w t.at.0 left from_listed low one_less (omega arith)))
-        | inr more ↦
-            let now : order' ≡ order = lists ∙ cond-false (slice_index waiting (head g e) == 1) (order ++ head g e ∷ []) order (ne_eqb (slice_index waiting (head g e)) 1 more) in
-            subst (λ os. Takes g k v old next (slice_set waiting (head g e) w) os) (sym now)
-            (step next (slice_set waiting (head g e) w) order first t.front t.place t.longer
-            (Peels-waits g gone waiting order t.peels e w t.at.0 left from_listed low one_less (λ none. more (omega arith))))
-      ])
-
--- all edges of v are taken
-pub Takes-all : (g : Graph) (k v : ℕ) (old waiting order : List ℕ) → k < length old → Takes g k v old None waiting order → PeelsTo g (k + 1) waiting order
-Takes-all g k v old waiting order within t =
-    Peels-same g (gone_to g (take k old) v (edge_count g)) (λ d. is_listed (take (k + 1) order) (tail g d)) waiting order
-    (λ d there.
-    let last : ((tail g d == v) && nat_lt d (edge_count g)) ≡ ((tail g d == v) || false) = elim (cases_Bool (tail g d == v)) [ inl h ↦ rw (h, lt-ltb d (edge_count g) there) refl | inr h ↦ rw h refl ] in
-    let more : take (k + 1) order ≡ take k old ++ v ∷ [] = take_more order k 0 (omega (arith, t.longer)) ∙ ap (λ xs. xs ++ slice_index order k ∷ []) t.front ∙ ap (λ x. take k old ++ x ∷ []) t.place in
-    ap (λ b. is_listed (take k old) (tail g d) || b) last
-    ∙ sym (ap (λ xs. is_listed xs (tail g d)) more ∙ list_any-append (λ w. tail g d == w) (take k old) (v ∷ [])))
-    t.peels
-
--- sources found one by one
-pub AreSourcesBelow-none : (counts : List ℕ) → AreSourcesBelow counts 0 []
-unfolding IsDistinct
-AreSourcesBelow-none counts = record { listed = λ v. ap (λ b. b && (slice_index counts v == 0)) (sym (not_less v 0 (omega arith))); distinct = tt }
-
-below_more : (u v : ℕ) → u ≢ v → nat_lt u v ≡ nat_lt u (v + 1)
-below_more u v other = elim (cases_lt u v) [ inl less ↦ lt-ltb u v less ∙ sym (lt-ltb u (v + 1) (omega arith)) | inr more ↦ not_less u v more ∙ sym (not_less u (v + 1) (omega arith)) ]
-
-pub AreSourcesBelow-more : (counts : List ℕ) (v : ℕ) (found : List ℕ) → slice_index counts v ≡ 0 → AreSourcesBelow counts v found → AreSourcesBelow counts (v + 1) (found ++ v ∷ [])
-AreSourcesBelow-more counts v found none s = record {
-  listed = λ u. elim (cases_eq u v) [
-    | inl same ↦
-        any-append_right (λ w. u == w) found (v ∷ []) (any-here (λ w. u == w) v [] (eq-eqb u v same))
-        ∙ sym (and_from (nat_lt u (v + 1)) (slice_index counts u == 0) (lt-ltb u (v + 1) (omega arith)) (eq-eqb (slice_index counts u) 0 (ap (slice_index counts) same ∙ none)))
-    | inr other ↦ listed-other found v u other ∙ s.listed u ∙ ap (λ b. b && (slice_index counts u == 0)) (below_more u v other)
-  ];
-  distinct = IsDistinct-push nat_eq_equiv found v s.distinct (s.listed v ∙ ap (λ b. b && (slice_index counts v == 0)) (not_less v v (omega arith)));
-}
-
-pub AreSourcesBelow-skip : (counts : List ℕ) (v : ℕ) (found : List ℕ) → slice_index counts v ≢ 0 → AreSourcesBelow counts v found → AreSourcesBelow counts (v + 1) found
-AreSourcesBelow-skip counts v found some s = record {
-  listed = λ u. elim (cases_eq u v) [
-    | inl same ↦
-        let none : (slice_index counts u == 0) ≡ false = ne_eqb (slice_index counts u) 0 (λ is. some (ap (slice_index counts) (sym same) ∙ is)) in
-        s.listed u ∙ both_false (nat_lt u v) (nat_lt u (v + 1)) (slice_index counts u == 0) none
-    | inr other ↦ s.listed u ∙ ap (λ b. b && (slice_index counts u == 0)) (below_more u v other)
-  ];
-  distinct = s.distinct;
-} where
-  both_false : (a b c : Bool) → c ≡ false → (a && c) ≡ (b && c)
-  both_false true true c none = refl
-  both_false true false c none = none
-  both_false false true c none = sym none
-  both_false false false c none = refl

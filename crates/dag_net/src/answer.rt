@@ -1,8 +1,7 @@
+//! Lists of weighted paths.
+
 ghost use Rattle.std.specs.Prelude.{◌≡◌, ℕ, ◌<◌, ◌≤◌, ◌^◌, List, [], ◌∷◌, ◌++◌, length, All, IfOk, OnOk, OnErr};
-ghost use Rattle.decomposition.specs.Answer.{weight_on};
-ghost use Rattle.decomposition.specs.Answer.{IsMerged};
-ghost use Rattle.decomposition.specs.Answer.{entry_at};
-ghost use Rattle.decomposition.specs.Answer.{total_weight, HaveSamePaths, IsInReportOrder};
+ghost use Rattle.decomposition.specs.Answer.{weight_on, IsMerged, entry_at, total_weight, HaveSamePaths, IsInReportOrder};
 
 use crate::ids::Ids;
 use crate::tidying::{merge, put_in_order};
@@ -24,6 +23,7 @@ impl Model for Answer {
 }
 
 impl Answer {
+    /// An empty list.
     pub fn new(alloc: Global) -> Self
         ensures { result ≡ [] }
     {
@@ -32,6 +32,7 @@ impl Answer {
         }
     }
 
+    /// How many entries there are.
     pub fn len(&self) -> usize
         ensures len { result ≡ length self.now }
         ensures weights { All (λ entry. 1 ≤ entry.1) self.now }
@@ -39,6 +40,7 @@ impl Answer {
         self.entries.len()
     }
 
+    /// The path of an entry.
     pub fn path(&self, i: usize) -> &Ids
         requires { i < length self.now }
         ensures { result.now ≡ (entry_at self.now i).0 }
@@ -46,6 +48,7 @@ impl Answer {
         &self.entries[i].0
     }
 
+    /// The weight of an entry.
     pub fn weight(&self, i: usize) -> u64
         requires { i < length self.now }
         ensures value { result ≡ (entry_at self.now i).1 }
@@ -54,6 +57,7 @@ impl Answer {
         self.entries[i].1
     }
 
+    /// Adds an entry at the end.
     pub fn push(&mut self, path: Ids, weight: u64) -> Result<(), AllocError>
         requires { 1 ≤ weight }
         ensures ok { OnOk result (self.new ≡ self.old ++ (path, weight) ∷ []) }

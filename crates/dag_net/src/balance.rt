@@ -1,6 +1,6 @@
 //! Whether as much enters each inner vertex as leaves it.
 
-ghost use Rattle.std.specs.Prelude.{◌≡◌, ℕ, ◌<◌, ◌≤◌, length, slice_index, IfOk, IfNone, IfSome, All};
+ghost use Rattle.std.specs.Prelude.{◌≡◌, ◌<◌, ◌≤◌, length, slice_index, IfOk, IfNone, IfSome, All};
 ghost use Rattle.decomposition.specs.Graph.{edge_count, is_inner};
 ghost use Rattle.decomposition.specs.Flow.{IsBalanced, IsFirstUnbalanced};
 ghost use Rattle.dag_net.specs.Balance.{AreSums};

@@ -152,8 +152,8 @@ Reaches-cases_last g e there u v way = go u way.edges way.walk way.end where
         | inl old_edge ↦
             let old = IsEdge-before g e d (omega arith) old_edge in
             let along = λ (x : ℕ) (ahead : Reaches (graph_before g e) (head (graph_before g (e + 1)) d) x).
-                subst (λ z. Reaches (graph_before g e) z x) (old.1 ∙ from_tail)
-                (Reaches-along (graph_before g e) d x old.0 (subst (λ z. Reaches (graph_before g e) z x) (new.2 ∙ sym old.2) ahead)) in
+            subst (λ z. Reaches (graph_before g e) z x) (old.1 ∙ from_tail)
+            (Reaches-along (graph_before g e) d x old.0 (subst (λ z. Reaches (graph_before g e) z x) (new.2 ∙ sym old.2) ahead)) in
             elim rest [ inl ahead ↦ inl (along v ahead) | inr over ↦ inr (along (tail g e) over.0, over.1) ]
         | inr last ↦
             let same : d ≡ e = omega arith in

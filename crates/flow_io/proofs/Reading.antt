@@ -2,18 +2,7 @@
 use Rattle.std.specs.Prelude.{◌≡◌, ℕ, ◌+◌, ◌<◌, ◌≤◌, List, [], ◌++◌, length, take, drop, Option, Some, None, refl}
 use Rattle.std.proofs.Common.{ap, sym, ◌∙◌, subst, arith, append_assoc, append-nil, length-append}
 use Rattle.std.proofs.lemmas.List.{drop-drop, take-append-drop, length-take-le}
-use Rattle.flow_io.specs.Outside.{Selected, Puts, after_read}
-
--- these bytes are the first ones left, where that is told
-abbrev pub AreFirst : Option (Option Selected) → List ℕ → Type 0
-AreFirst None bytes = Unit {0}
-AreFirst (Some None) bytes = bytes ≡ []
-AreFirst (Some (Some s)) bytes = s.left ≡ bytes ++ drop (length bytes) s.left
-
--- the reads between `told` and `now` took these bytes
-pub record Took (told now : Option (Option Selected)) (bytes : List ℕ) : Type 0 where
-  pub first : AreFirst told bytes
-  pub left : now ≡ after_read (length bytes) told
+use Rattle.flow_io.specs.Outside.{Selected, Puts, after_read, AreFirst, Took}
 
 -- a read of no bytes leaves all
 pub after_read-nothing : (told : Option (Option Selected)) → told ≡ after_read 0 told

@@ -1,9 +1,9 @@
 -- The earliest refusal of two lists, and of lists that grow by refusals of a later line.
-use Rattle.std.proofs.Common.{◌≡◌, ℕ, ◌<◌, ◌≤◌, ◌∷◌, ◌++◌, [], List, Bool, true, false, cond, leb, Option, Some, None, refl, sym, ap, subst, ◌∙◌, filter, ◌||◌, map, arith, inl, inr, ⊎_elim}
+use Rattle.std.proofs.Common.{◌≡◌, ℕ, ◌<◌, ◌≤◌, ◌∷◌, ◌++◌, [], List, Bool, true, false, cond, leb, Option, Some, None, refl, sym, ap, subst, ◌∙◌, filter, ◌||◌, arith}
 use Rattle.std.specs.Option.{IfSome}
 use Rattle.std.specs.List.{All, list_any}
-use Rattle.std.proofs.lemmas.Bool.{cond_both, cond-true, cond-false, le-leb, lt-leb, leb-true, leb-false}
-use Rattle.std.proofs.lemmas.Bool.Decides.{leb_tells, nat_tests}
+use Rattle.std.proofs.lemmas.Bool.{cond_both, cond-true, cond-false, le-leb, lt-leb}
+use Rattle.std.proofs.lemmas.Bool.Decides.{nat_tests}
 use Rattle.std.proofs.lemmas.List.Elements.{All-head, All-tail, All-map, All-filter, filter-append}
 use Rattle.std.proofs.lemmas.List.{map-append}
 use Rattle.graph_text.specs.declared.refusal.Why.{Why}
@@ -112,12 +112,12 @@ pub Grows-kind : (why : Why) (lines : List Line) (l : Line) (test : Bool) → Al
 Grows-kind why lines l test h =
     let below = refused-below why l.number lines h in
     record {
-  below = below;
-  here = refusal_if-here why l test;
-  same = refused-append why lines (cond test (l ∷ []) [])
-    ∙ ap (merge (earliest (refused why lines))) (refused_if why l test)
-    ∙ merge-below l.number (earliest (refused why lines)) (refusal_if why l test) below (refusal_if-here why l test);
-}
+      below = below;
+      here = refusal_if-here why l test;
+      same = refused-append why lines (cond test (l ∷ []) [])
+          ∙ ap (merge (earliest (refused why lines))) (refused_if why l test)
+          ∙ merge-below l.number (earliest (refused why lines)) (refusal_if why l test) below (refusal_if-here why l test);
+    }
 
 -- a kind of refusal that stays
 pub Grows-same : (why : Why) (lines : List Line) (l : Line) → All (λ k. k.number < l.number) lines → Grows l.number (earliest (refused why lines)) (earliest (refused why lines)) None

@@ -1,10 +1,12 @@
 -- The graph of lines of which none is refused for itself: its edges and its ranges.
-use Rattle.std.proofs.Common.{◌≡◌, ◌≢◌, ℕ, zero, suc, ◌+◌, ◌-◌, ◌<◌, ◌≤◌, Bool, true, false, not, cond, leb, ltb, ◌&&◌, List, [], ◌∷◌, ◌++◌, map, filter, length, take, drop, get_or, Contains, refl, sym, ap, subst, ◌∙◌, ⊎_elim, arith, length-drop, length-take}
+use Rattle.std.proofs.Common.{◌≡◌, ◌≢◌, ℕ, ◌+◌, ◌-◌, ◌<◌, ◌≤◌, Bool, true, false, not, cond, leb, ltb, ◌&&◌, List, [], ◌∷◌, ◌++◌, map, filter, length, take, drop, get_or, Contains, refl, sym, ap, ◌∙◌, ⊎_elim, arith, length-drop, length-take}
 use Rattle.std.specs.Prelude.{All, AllPairs, ◌==◌, nat_le, Option, Some, None}
-use Rattle.std.specs.List.{list_all}
+use Rattle.std.specs.List.{list_all, before_first}
+use Rattle.std.specs.Option.{unwrap_or}
+use Rattle.std.proofs.lemmas.List.Folds.{list_all-map}
 use Rattle.std.specs.Str.{bytes_eq}
-use Rattle.std.proofs.lemmas.Bool.{true≢false, cases_Bool, cond-true, cond-false, and_parts, and_from, not-false, eqb-true, eq-eqb, ltb-false, leb-true, le-leb}
-use Rattle.std.proofs.lemmas.List.{length-map, length-take-le, get_or-map}
+use Rattle.std.proofs.lemmas.Bool.{true≢false, cases_Bool, cond-true, cond-false, cond_both, and_parts, and_from, not-false, eqb-true, eq-eqb, ltb-false, leb-true, le-leb}
+use Rattle.std.proofs.lemmas.List.{length-map, length-take-le}
 use Rattle.std.proofs.lemmas.List.Elements.{All-nil, All-cons, All-head, All-tail, All-map, All-weaker}
 use Rattle.std.proofs.lemmas.List.Kept.{AllPairs-cons}
 use Rattle.std.proofs.lemmas.Slice.Eq.{bytes_eq-Decides}
@@ -12,12 +14,12 @@ use Rattle.decomposition.specs.declared.Mode.{Mode}
 use Rattle.decomposition.specs.declared.Range.{Range}
 use Rattle.decomposition.proofs.Open.{all-from_places}
 use Rattle.graph_text.specs.declared.refusal.Why.{Why}
-use Rattle.graph_text.specs.declared.refusal.Why.TheVariants.{LongLine, BadCount, BadFields, BadWeight, BadRange, RepeatedEdge, TooManyEdges}
+use Rattle.graph_text.specs.declared.refusal.Why.TheVariants.{BadFields, BadWeight, BadRange, RepeatedEdge, TooManyEdges}
 use Rattle.graph_text.specs.declared.refusal.Refusal.{Refusal}
 use Rattle.graph_text.specs.Draft.{settled_refusals}
-use Rattle.graph_text.specs.Reading.{Line, most_edges, most_weight, edge_lines, ends_of, same_fields, last_fields, weights_of, weight_in, value_of, range_in, range_of, refused, bad_fields, bad_weights, bad_ranges, repeats, line_refusals, earlier, earliest, names_of, edges_of, vertex_of, pair_in, edge_of, is_weight_form, number_of}
+use Rattle.graph_text.specs.Reading.{Line, most_edges, most_weight, edge_lines, ends_of, same_fields, last_fields, weights_of, value_of, range_in, range_of, refused, bad_fields, bad_weights, bad_ranges, repeats, line_refusals, earlier, earliest, names_of, edges_of, vertex_of, pair_in, edge_of, is_weight_form, number_of}
 use Rattle.graph_text.proofs.Places.{place_of_contained}
-use Rattle.graph_text.proofs.Mentions.{names_in, ends-Contains}
+use Rattle.graph_text.proofs.Mentions.{ends-Contains}
 
 -- where there is no earliest refusal there is none
 pub earliest-none : (rs : List Refusal) → earliest rs ≡ None → rs ≡ []
@@ -127,7 +129,26 @@ distinct-edges names (l ∷ lines) each once =
 
 -- the value of a weight is never too great
 value_of-le : (field : List ℕ) → value_of field ≤ most_weight
-value_of-le field = ?
+value_of-le field = capped (is_weight_form field) (number_of (before_first (λ b. b == 46) field))
+  where
+    capped : (form : Bool) (value : ℕ) → unwrap_or (cond (form && leb value most_weight) (Some value) None) 0 ≤ most_weight
+    capped form value =
+        cond_both (form && leb value most_weight) (Some value) None (λ o. unwrap_or o 0 ≤ most_weight)
+        (λ t. leb-true value most_weight (and_parts form (leb value most_weight) t).1) (λ _. omega arith)
+
+range-high : (fields : List (List ℕ)) → (range_in fields).hi ≤ most_weight
+range-high [] = omega arith
+range-high (w ∷ []) = value_of-le w
+range-high (lo ∷ hi ∷ fields) = value_of-le hi
+
+range-single : (fields : List (List ℕ)) → length fields ≡ 1 → (range_in fields).lo ≡ (range_in fields).hi
+range-single [] one = refl
+range-single (w ∷ []) one = refl
+range-single (lo ∷ hi ∷ fields) one = absurd (omega arith)
+
+-- a line that stands for none
+no_line : Line
+no_line = record { number = 0; bytes = 0; fields = [] }
 
 module _ (mode : Mode) (lines : List Line) (sound : AreSound mode lines) where
   -- the number of fields of each edge line
@@ -160,3 +181,26 @@ module _ (mode : Mode) (lines : List Line) (sound : AreSound mode lines) where
   -- and as many ranges
   pub range_each : length (map (range_of mode) (edge_lines lines)) ≡ length (edges_of lines)
   range_each = length-map (edge_lines lines) (range_of mode) ∙ sym (length-map (edge_lines lines) (edge_of (names_of lines)))
+
+  abbrev ranges_of_lines : List Range
+  ranges_of_lines = map (range_of mode) (edge_lines lines)
+
+  -- each range is one, and not too great
+  pub ranges_bounded : list_all (λ r. nat_le r.lo r.hi && nat_le r.hi 1000000000000) ranges_of_lines ≡ true
+  ranges_bounded =
+      list_all-map (λ (r : Range). nat_le r.lo r.hi && nat_le r.hi 1000000000000) (range_of mode) (edge_lines lines)
+      ∙ all-from_places (λ l. nat_le (range_of mode l).lo (range_of mode l).hi && nat_le (range_of mode l).hi 1000000000000) (edge_lines lines) no_line
+      (λ k within.
+      let r = range_of mode (get_or (edge_lines lines) k no_line) in
+      let rising : r.lo ≤ r.hi = ltb-false r.hi r.lo (filter-empty (λ (l : Line). ltb (range_of mode l).hi (range_of mode l).lo) (edge_lines lines) sound.ranges k no_line within) in
+      and_from _ _ (le-leb r.lo r.hi rising) (le-leb r.hi 1000000000000 (range-high (last_fields mode (get_or (edge_lines lines) k no_line)))))
+
+  -- with one weight a line both bounds are this weight
+  pub ranges_single : weights_of mode ≡ 1 → list_all (λ r. r.lo == r.hi) ranges_of_lines ≡ true
+  ranges_single one =
+      list_all-map (λ (r : Range). r.lo == r.hi) (range_of mode) (edge_lines lines)
+      ∙ all-from_places (λ l. (range_of mode l).lo == (range_of mode l).hi) (edge_lines lines) no_line
+      (λ k within.
+      let fields = (get_or (edge_lines lines) k no_line).fields in
+      let last : length (last_fields mode (get_or (edge_lines lines) k no_line)) ≡ 1 = omega (arith, length-drop (length fields - weights_of mode) fields, counted k no_line within, one) in
+      eq-eqb _ _ (range-single (last_fields mode (get_or (edge_lines lines) k no_line)) last))

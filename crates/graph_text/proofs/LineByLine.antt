@@ -1,18 +1,17 @@
 -- How the parts of a block change by one more line.
-use Rattle.std.proofs.Common.{◌≡◌, ℕ, ◌+◌, ◌-◌, ◌<◌, ◌≤◌, ◌==◌, ◌∷◌, ◌++◌, [], List, length, take, drop, Bool, true, false, not, ◌&&◌, ◌||◌, cond, ltb, eqb, Option, Some, None, refl, sym, ap, subst, ◌∙◌, map, filter, arith, ⊎_elim}
-use Rattle.std.specs.Prelude.{flat_map}
-use Rattle.std.specs.List.{All, list_any, list_all}
+use Rattle.std.proofs.Common.{◌≡◌, ℕ, ◌-◌, ◌<◌, ◌==◌, ◌∷◌, ◌++◌, [], List, length, take, drop, Bool, true, false, not, ◌&&◌, Option, refl, sym, ap, ◌∙◌, filter, arith, ⊎_elim}
+use Rattle.std.specs.List.{list_any}
 use Rattle.std.proofs.lemmas.Bool.{cond-true, cond-false, cases_Bool, ne_eqb}
-use Rattle.std.proofs.lemmas.List.{append-nil, map-append, drop_at, length_push, take-append-le, drop-append-le}
-use Rattle.std.proofs.lemmas.List.Elements.{All-filter, All-take, All-drop, All-append, All-tail, filter-append}
+use Rattle.std.proofs.lemmas.List.{append-nil, drop_at, length_push, take-append-le, drop-append-le}
+use Rattle.std.proofs.lemmas.List.Elements.{filter-append}
 use Rattle.decomposition.specs.declared.Mode.{Mode}
-use Rattle.graph_text.specs.declared.refusal.Why.{Why}
 use Rattle.graph_text.specs.declared.refusal.Why.TheVariants.{LongLine, BadCount, BadFields, BadWeight, BadRange, RepeatedEdge, TooManyEdges}
 use Rattle.graph_text.specs.declared.refusal.Refusal.{Refusal}
 use Rattle.graph_text.specs.Lines.{are_no_fields, are_hash_fields, are_run_fields}
-use Rattle.graph_text.specs.Reading.{Line, most_bytes, most_edges, filled_lines, content_lines, run_lines, count_lines, edge_lines, last_filled, long_lines, bad_fields, bad_weights, bad_ranges, repeats, is_count, is_weight, weights_of, last_fields, range_of, same_fields, ends_of, refused, earliest, or_else}
+use Rattle.graph_text.specs.ShownLine.{IsBlank, IsHash, IsContent}
+use Rattle.graph_text.specs.Reading.{Line, most_edges, filled_lines, content_lines, run_lines, count_lines, edge_lines, last_filled, long_lines, bad_fields, bad_weights, bad_ranges, repeats, is_count, refused, earliest, or_else}
 use Rattle.graph_text.specs.Draft.{is_content, settled_refusals}
-use Rattle.graph_text.proofs.Earliest.{Grows, Grows-append, Grows-merge, Grows-at, Grows-kind, Grows-same, Grows-repeats, refusal_if}
+use Rattle.graph_text.proofs.Earliest.{Grows, Grows-append}
 
 -- a filter of one more element, which passes or fails
 filter_pass : {X : Type 0} (p : X → Bool) (xs : List X) (x : X) → p x ≡ true → filter p (xs ++ x ∷ []) ≡ filter p xs ++ x ∷ []
@@ -23,18 +22,6 @@ filter_fail p xs x e =
     filter-append p xs (x ∷ [])
     ∙ ap (λ ys. filter p xs ++ ys) (cond-false (p x) (x ∷ []) [] e)
     ∙ append-nil (filter p xs)
-
--- What a line is: blank, a `#` line or a content line.
-pub record IsBlank (l : Line) : Type 0 where
-  pub none : are_no_fields l.fields ≡ true
-
-pub record IsHash (l : Line) : Type 0 where
-  pub some : are_no_fields l.fields ≡ false
-  pub hash : are_hash_fields l.fields ≡ true
-
-pub record IsContent (l : Line) : Type 0 where
-  pub some : are_no_fields l.fields ≡ false
-  pub no_hash : are_hash_fields l.fields ≡ false
 
 pub filled-blank : (lines : List Line) (l : Line) → IsBlank l → filled_lines (lines ++ l ∷ []) ≡ filled_lines lines
 filled-blank lines l b = filter_fail (λ l. not (are_no_fields l.fields)) lines l (ap not b.none)
@@ -97,9 +84,10 @@ count-first lines l h e =
 
 pub edge-more : (lines : List Line) (l : Line) → IsContent l → 0 < length (content_lines lines) → (count_lines (lines ++ l ∷ []) ≡ count_lines lines) × (edge_lines (lines ++ l ∷ []) ≡ edge_lines lines ++ l ∷ [])
 edge-more lines l h e =
-    let more = content-more lines l h in
-    (ap (take 1) more ∙ take-append-le 1 (content_lines lines) (l ∷ []) (omega arith),
-    ap (drop 1) more ∙ drop-append-le 1 (content_lines lines) (l ∷ []) (omega arith))
+    let more = content-more lines l h in (
+      ap (take 1) more ∙ take-append-le 1 (content_lines lines) (l ∷ []) (omega arith),
+      ap (drop 1) more ∙ drop-append-le 1 (content_lines lines) (l ∷ []) (omega arith),
+    )
 
 -- what the refusals grow by, kind by kind
 pub record GrowsBy (line : ℕ) (mode : Mode) (lines lines' : List Line) (long count fields weight range repeat many : Option Refusal) : Type 0 where

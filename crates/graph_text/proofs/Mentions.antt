@@ -1,16 +1,16 @@
 -- The names that a list of lines mentions, each once, and how names and edges grow by one more edge line.
-use Rattle.std.proofs.Common.{◌≡◌, ℕ, Bool, true, false, not, cond, ◌||◌, ◌&&◌, List, [], ◌∷◌, ◌++◌, map, filter, get_or, Contains, refl, sym, ap, subst, ◌∙◌, ⊎_elim, arith, append_assoc}
+use Rattle.std.proofs.Common.{◌≡◌, ℕ, ◌*◌, ◌≤◌, length-append, length-take, Bool, true, false, not, cond, ◌||◌, ◌&&◌, List, [], ◌∷◌, ◌++◌, map, filter, length, get_or, Contains, refl, sym, ap, subst, ◌∙◌, ⊎_elim, arith, append_assoc}
 use Rattle.std.specs.Prelude.{All}
 use Rattle.std.specs.Cmp.Lexicographic.{nat_list_eq_equiv}
 use Rattle.std.specs.List.{list_any, flat_map}
 use Rattle.std.specs.Str.{bytes_eq}
-use Rattle.std.proofs.lemmas.Bool.{true≢false, cases_Bool}
+use Rattle.std.proofs.lemmas.Bool.{true≢false, cases_Bool, cond_both}
 use Rattle.std.proofs.lemmas.Grind.{flat_map-append}
 use Rattle.std.proofs.lemmas.List.{append-nil, map_push}
 use Rattle.std.proofs.lemmas.List.Elements.{All-head, All-tail, All-weaker, Contains-append_left, Contains-append_right, Contains-get_or, filter-append}
 use Rattle.std.proofs.lemmas.Map.Made.{is_member-filter, Contains-tail}
 use Rattle.std.proofs.lemmas.Slice.Eq.{bytes_eq-Decides}
-use Rattle.dag_net.proofs.Lists.{Contains-cons_cases, Contains-filter}
+use Rattle.graph_text.proofs.Members.{Contains-cons_cases, Contains-filter}
 use Rattle.graph_text.specs.Labels.{with_name}
 use Rattle.graph_text.specs.Reading.{Line, edge_lines, ends_of, distinct, names_of, vertex_of, pair_in, edge_of, edges_of}
 use Rattle.graph_text.proofs.Naming.{Contains-with_name, Contains-with_name_same, vertex_of-kept}
@@ -75,6 +75,24 @@ pub map_agree : {X Y : Type 0} (f g : X → Y) (xs : List X) → All (λ x. f x 
 map_agree f g [] same = refl
 map_agree f g (x ∷ xs) same =
     ap (λ y. y ∷ map f xs) (All-head (λ y. f y ≡ g y) x xs same) ∙ ap (λ ys. g x ∷ ys) (map_agree f g xs (All-tail (λ y. f y ≡ g y) x xs same))
+
+-- there are at most two names for each edge line
+length-distinct : (names : List (List ℕ)) → length (distinct names) ≤ length names
+length-distinct [] = omega arith
+length-distinct (a ∷ names) = omega (arith, length-filter_le (λ n. not (bytes_eq a n)) (distinct names), length-distinct names)
+  where
+    length-filter_le : (p : List ℕ → Bool) (ns : List (List ℕ)) → length (filter p ns) ≤ length ns
+    length-filter_le p [] = omega arith
+    length-filter_le p (n ∷ ns) =
+        cond_both (p n) (n ∷ filter p ns) (filter p ns) (λ ms. length ms ≤ length (n ∷ ns))
+        (λ _. omega (arith, length-filter_le p ns)) (λ _. omega (arith, length-filter_le p ns))
+
+length-ends : (edges : List Line) → length (flat_map ends_of edges) ≤ 2 * length edges
+length-ends [] = omega arith
+length-ends (l ∷ edges) = omega (arith, length-append (ends_of l) (flat_map ends_of edges), length-take 2 l.fields, length-ends edges)
+
+pub few_names : (edges : List Line) → length (distinct (flat_map ends_of edges)) ≤ 2 * length edges
+few_names edges = omega (arith, length-distinct (flat_map ends_of edges), length-ends edges)
 
 -- the ends of some edge lines are among their names
 abbrev pub names_in : List Line → List (List ℕ)

@@ -1,11 +1,11 @@
 -- Names in order of first mention, their numbers, and how both grow by one more name or one more edge line.
 use Rattle.std.proofs.Common.{◌≡◌, ℕ, ◌+◌, ◌<◌, ◌≤◌, Bool, true, false, not, cond, eqb, List, [], ◌∷◌, ◌++◌, map, length, position, Option, Contains, refl, sym, ap, subst, ◌∙◌, ⊎_elim, arith}
 use Rattle.std.specs.Prelude.{IsTrue}
-use Rattle.std.specs.Bool.{Decides, MatchBool}
+use Rattle.std.specs.Bool.{MatchBool}
 use Rattle.std.specs.Cmp.Lexicographic.{nat_list_eq_equiv}
 use Rattle.std.specs.List.{list_any, IsDistinct}
 use Rattle.std.specs.Str.{bytes_eq}
-use Rattle.std.proofs.lemmas.Bool.{true≢false, cases_Bool, cond-true, cond-false, ne_eqb, eqb-true, eq-eqb, not-false, and_parts, and_from}
+use Rattle.std.proofs.lemmas.Bool.{true≢false, cases_Bool, cond-true, cond-false, ne_eqb, eqb-true, not-false}
 use Rattle.std.proofs.lemmas.List.{map_push, length_push}
 use Rattle.std.proofs.lemmas.List.Elements.{All-push, All-weaker, Contains-append_left, Contains-push, Contains-get_or}
 use Rattle.std.proofs.lemmas.List.Folds.{position_or_len_push}
@@ -13,6 +13,7 @@ use Rattle.std.proofs.lemmas.Map.Keys.{IsDistinct-push}
 use Rattle.std.proofs.lemmas.Map.Made.{is_member-Decides}
 use Rattle.std.proofs.lemmas.Slice.Eq.{bytes_eq-Decides}
 use Rattle.decomposition.specs.Graph.{same_ends}
+use Rattle.decomposition.proofs.Nets.{same_ends-Decides}
 use Rattle.graph_text.specs.Labels.{LabelLists, AreLabels, with_name, is_field, name_at}
 use Rattle.graph_text.specs.Reading.{vertex_of}
 use Rattle.graph_text.proofs.Places.{list_any-map, position-map, place_of_contained}
@@ -103,13 +104,6 @@ AreLabels-with_name labels name are field =
           (λ e h. (omega (arith, h.0, length_push labels.names name), omega (arith, h.1, length_push labels.names name))) labels.edges are.ends;
       simple = are.simple;
     })
-
--- two edges have the same ends exactly if they are the same
-pub same_ends-Decides : (a b : ℕ × ℕ) → Decides (same_ends a b) (a ≡ b)
-same_ends-Decides a b = (
-  λ t. let parts = and_parts (eqb a.0 b.0) (eqb a.1 b.1) t in let p : a.0 ≡ b.0 = eqb-true _ _ parts.0 in let q : a.1 ≡ b.1 = eqb-true _ _ parts.1 in λ i. (p i, q i),
-  λ e. and_from _ _ (eq-eqb a.0 b.0 (ap (λ (p : ℕ × ℕ). p.0) e)) (eq-eqb a.1 b.1 (ap (λ (p : ℕ × ℕ). p.1) e)),
-)
 
 -- what an insert says of an edge
 pub new_edge : (edges : List (ℕ × ℕ)) (edge : ℕ × ℕ) (is_new : Bool) → is_new ≡ not (list_any (same_ends edge) edges) → MatchBool is_new (¬ Contains edges edge) (Contains edges edge)

@@ -1,5 +1,5 @@
 -- How the refusals that stay change by one more line: blank, a `#` line, a count line or an edge line.
-use Rattle.std.proofs.Common.{◌≡◌, ℕ, ◌+◌, ◌-◌, ◌<◌, ◌≤◌, ◌==◌, ◌∷◌, ◌++◌, [], List, length, take, drop, Bool, true, false, not, cond, ltb, eqb, Option, Some, None, refl, sym, ap, subst, ◌∙◌, map, filter, arith, ⊎_elim}
+use Rattle.std.proofs.Common.{◌≡◌, ℕ, ◌+◌, ◌<◌, ◌==◌, ◌∷◌, ◌++◌, [], List, length, take, drop, Bool, true, false, not, cond, ltb, Option, Some, None, refl, sym, ap, subst, ◌∙◌, filter, arith, ⊎_elim}
 use Rattle.std.specs.List.{All, list_any, list_all}
 use Rattle.std.proofs.lemmas.Bool.{cond-true, cond-false, cases_order, ne_eqb, eq-eqb}
 use Rattle.std.proofs.lemmas.List.{append-nil, drop_at, drop_all, take-append-le, drop-append-le, length_push, length-drop}
@@ -9,11 +9,12 @@ use Rattle.graph_text.specs.declared.refusal.Why.{Why}
 use Rattle.graph_text.specs.declared.refusal.Why.TheVariants.{LongLine, BadCount, BadFields, BadWeight, BadRange, RepeatedEdge, TooManyEdges}
 use Rattle.graph_text.specs.declared.refusal.Refusal.{Refusal}
 use Rattle.graph_text.specs.Lines.{are_no_fields, are_hash_fields}
-use Rattle.graph_text.specs.Reading.{Line, most_bytes, most_edges, filled_lines, content_lines, count_lines, edge_lines, long_lines, bad_fields, bad_weights, bad_ranges, repeats, is_count, is_weight, weights_of, last_fields, range_of, same_fields, ends_of, refused, earliest, or_else}
+use Rattle.graph_text.specs.Reading.{Line, most_bytes, most_edges, filled_lines, content_lines, count_lines, edge_lines, long_lines, repeats, is_count, is_weight, weights_of, last_fields, range_of, same_fields, ends_of, refused, earliest, or_else}
 use Rattle.graph_text.specs.Draft.{settled_refusals}
 use Rattle.graph_text.specs.LineFaults.{fault_of_hash, fault_of_count, fault_of_edge, or_fault, refusal_at}
+use Rattle.graph_text.specs.ShownLine.{IsBlank, IsHash, IsContent}
 use Rattle.graph_text.proofs.Earliest.{Grows, Grows-kind, Grows-same, Grows-repeats, refusal_if}
-use Rattle.graph_text.proofs.LineByLine.{IsBlank, IsHash, IsContent, filled-blank, filled-some, content-hash, content-more, count-first, edge-more, GrowsBy, Grows-all}
+use Rattle.graph_text.proofs.LineByLine.{filled-blank, filled-some, content-hash, count-first, edge-more, GrowsBy, Grows-all}
 
 filled-below : (n : ℕ) (lines : List Line) → All (λ k. k.number < n) lines → All (λ k. k.number < n) (filled_lines lines)
 filled-below n lines h = All-filter (λ l. not (are_no_fields l.fields)) (λ (k : Line). k.number < n) lines h
@@ -139,10 +140,10 @@ settled-hash mode lines l h hash =
     let same = content-hash lines l hash in
     let long = refusal_if LongLine l (ltb most_bytes l.bytes) in
     let grows = Grows-all l.number mode lines (lines ++ l ∷ []) long None None None None None None
-        (same-edges mode lines l h (ap (drop 1) same) long None (long-more lines l h hash.some)
-        (kind-same BadCount (filter test (count_lines lines)) (filter test (count_lines (lines ++ l ∷ []))) l
-        (All-filter test (λ (k : Line). k.number < l.number) (count_lines lines) (All-take (λ (k : Line). k.number < l.number) 1 (content_lines lines) (content-below l.number lines h)))
-        (ap (λ c. filter test (take 1 c)) same))) in
+    (same-edges mode lines l h (ap (drop 1) same) long None (long-more lines l h hash.some)
+    (kind-same BadCount (filter test (count_lines lines)) (filter test (count_lines (lines ++ l ∷ []))) l
+    (All-filter test (λ (k : Line). k.number < l.number) (count_lines lines) (All-take (λ (k : Line). k.number < l.number) 1 (content_lines lines) (content-below l.number lines h)))
+    (ap (λ c. filter test (take 1 c)) same))) in
     grows.same ∙ ap (or_else (earliest (settled_refusals mode lines))) (hash_chain l (ltb most_bytes l.bytes))
 
 -- the first content line is refused where it is long or no count
@@ -154,10 +155,10 @@ settled-count mode lines l h content none =
     let long = refusal_if LongLine l (ltb most_bytes l.bytes) in
     let count = refusal_if BadCount l (test l) in
     let grows = Grows-all l.number mode lines (lines ++ l ∷ []) long count None None None None None
-        (same-edges mode lines l h (first.1 ∙ sym (ap (drop 1) none)) long count (long-more lines l h content.some)
-        (kind-more BadCount (filter test (count_lines lines)) (filter test (count_lines (lines ++ l ∷ []))) l (test l)
-        (All-filter test (λ (k : Line). k.number < l.number) (count_lines lines) (All-take (λ (k : Line). k.number < l.number) 1 (content_lines lines) (content-below l.number lines h)))
-        (ap (filter test) first.0 ∙ sym (ap (λ c. c ++ cond (test l) (l ∷ []) []) old)))) in
+    (same-edges mode lines l h (first.1 ∙ sym (ap (drop 1) none)) long count (long-more lines l h content.some)
+    (kind-more BadCount (filter test (count_lines lines)) (filter test (count_lines (lines ++ l ∷ []))) l (test l)
+    (All-filter test (λ (k : Line). k.number < l.number) (count_lines lines) (All-take (λ (k : Line). k.number < l.number) 1 (content_lines lines) (content-below l.number lines h)))
+    (ap (filter test) first.0 ∙ sym (ap (λ c. c ++ cond (test l) (l ∷ []) []) old)))) in
     grows.same ∙ ap (or_else (earliest (settled_refusals mode lines))) (count_chain l (ltb most_bytes l.bytes) (test l))
 
 -- a later content line is refused for what is wrong with it as an edge line
@@ -171,18 +172,18 @@ settled-edge mode lines l h content some =
     let many = length (edge_lines lines) == most_edges in
     let more = edge-more lines l content some in
     let grows = Grows-all l.number mode lines (lines ++ l ∷ []) (refusal_if LongLine l (ltb most_bytes l.bytes)) None
-        (refusal_if BadFields l (fields l)) (refusal_if BadWeight l (weight l)) (refusal_if BadRange l (range l)) (refusal_if RepeatedEdge l repeat) (refusal_if TooManyEdges l many)
-        (record {
-          long_grows = long-more lines l h content.some;
-          count_grows = kind-same BadCount (filter count (count_lines lines)) (filter count (count_lines (lines ++ l ∷ []))) l
-              (All-filter count (λ (k : Line). k.number < l.number) (count_lines lines) (All-take (λ (k : Line). k.number < l.number) 1 (content_lines lines) (content-below l.number lines h)))
-              (ap (filter count) more.0);
-          fields_grow = edges-more BadFields fields lines l h more.1;
-          weights_grow = edges-more BadWeight weight lines l h more.1;
-          ranges_grow = edges-more BadRange range lines l h more.1;
-          repeats_grow = repeats-more lines l h more.1;
-          many_grow = many-more lines l h more.1;
-        }) in
+    (refusal_if BadFields l (fields l)) (refusal_if BadWeight l (weight l)) (refusal_if BadRange l (range l)) (refusal_if RepeatedEdge l repeat) (refusal_if TooManyEdges l many)
+    (record {
+      long_grows = long-more lines l h content.some;
+      count_grows = kind-same BadCount (filter count (count_lines lines)) (filter count (count_lines (lines ++ l ∷ []))) l
+          (All-filter count (λ (k : Line). k.number < l.number) (count_lines lines) (All-take (λ (k : Line). k.number < l.number) 1 (content_lines lines) (content-below l.number lines h)))
+          (ap (filter count) more.0);
+      fields_grow = edges-more BadFields fields lines l h more.1;
+      weights_grow = edges-more BadWeight weight lines l h more.1;
+      ranges_grow = edges-more BadRange range lines l h more.1;
+      repeats_grow = repeats-more lines l h more.1;
+      many_grow = many-more lines l h more.1;
+    }) in
     grows.same
     ∙ ap (or_else (earliest (settled_refusals mode lines)))
     (edge_chain l (ltb most_bytes l.bytes) (fields l) (weight l) (range l) repeat many)

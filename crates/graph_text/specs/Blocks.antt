@@ -1,5 +1,5 @@
 -- The blocks of a graph text, cut from the whole list of its lines.
-use Rattle.std.specs.Prelude.{ℕ, ◌+◌, List, [], ◌∷◌, length, drop, reverse, Bool, false, not, ◌&&◌, ◌||◌, nat_le, if◌then◌else◌, take_while}
+use Rattle.std.specs.Prelude.{◌≡◌, ℕ, ◌+◌, ◌==◌, ◌≤◌, List, [], ◌∷◌, length, drop, reverse, Bool, false, not, ◌&&◌, ◌||◌, nat_le, if◌then◌else◌, take_while, All}
 use Rattle.std.specs.List.{list_any}
 use Rattle.graph_text.specs.Lines.{lines_of, is_blank, is_blank_line, is_hash_line, is_run_line, is_content_line}
 
@@ -81,3 +81,9 @@ name_of_lines (line ∷ lines) = name_in line
 
 abbrev pub name_of : TextBlock → List ℕ
 name_of block = name_of_lines block.lines
+
+-- a block of a text: its numbers count from 1, and no line of it has a line feed
+pub record IsTextBlock (block : TextBlock) : Type 0 where
+  pub index_from : 1 ≤ block.index
+  pub line_from : 1 ≤ block.line
+  pub no_feeds : All (λ line. list_any (λ b. b == 10) line ≡ false) block.lines

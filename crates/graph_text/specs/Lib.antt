@@ -5,6 +5,12 @@ pub mod Blocks
 pub mod Progress
 pub mod Reading
 pub mod LineFaults
+pub mod ShownLine
+pub mod FirstEdges
+pub mod DraftGraph
 pub mod Draft
+pub mod OpenLine
+pub mod Cutter
 pub mod Reader
 pub mod Examples
+pub mod Accepted

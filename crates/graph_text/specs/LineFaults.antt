@@ -1,12 +1,27 @@
--- What is wrong with a line: a `#` line, a count line or an edge line.
-use Rattle.std.specs.Prelude.{ℕ, ◌+◌, ◌-◌, ◌==◌, List, length, drop, Bool, not, nat_lt, if◌then◌else◌, Option, Some, None}
+-- What is wrong with a line, and the refusals of the lines of a block that stay whatever lines follow.
+use Rattle.std.specs.Prelude.{◌≡◌, ℕ, ◌+◌, ◌-◌, ◌<◌, ◌==◌, List, [], ◌++◌, length, take, drop, filter, Bool, not, ◌&&◌, nat_lt, if◌then◌else◌, Option, Some, None}
 use Rattle.std.specs.List.{list_any, list_all}
 use Rattle.decomposition.specs.declared.Mode.{Mode}
-use Rattle.decomposition.specs.declared.Range.{Range}
 use Rattle.graph_text.specs.declared.refusal.Why.{Why}
 use Rattle.graph_text.specs.declared.refusal.Why.TheVariants.{LongLine, BadCount, BadFields, BadWeight, BadRange, RepeatedEdge, TooManyEdges}
 use Rattle.graph_text.specs.declared.refusal.Refusal.{Refusal}
-use Rattle.graph_text.specs.Reading.{Line, most_bytes, most_edges, is_count, is_weight, weights_of, range_in, same_fields, ends_of}
+use Rattle.graph_text.specs.Lines.{are_no_fields, are_hash_fields}
+use Rattle.graph_text.specs.Reading.{Line, most_bytes, most_edges, content_lines, run_lines, count_lines, edge_lines, long_lines, bad_fields, bad_weights, bad_ranges, repeats, is_count, is_weight, weights_of, range_in, same_fields, ends_of, refused, earliest}
+
+-- whether a line is a content line
+abbrev pub is_content : Line → Bool
+is_content l = not (are_no_fields l.fields) && not (are_hash_fields l.fields)
+
+-- the refusals of lines that stay whatever lines follow: all but that of a block without a count line
+abbrev pub settled_refusals : Mode → List Line → List Refusal
+settled_refusals mode lines =
+    refused LongLine (long_lines lines)
+    ++ refused BadCount (filter (λ l. not (is_count l.fields)) (count_lines lines))
+    ++ refused BadFields (bad_fields mode lines)
+    ++ refused BadWeight (bad_weights mode lines)
+    ++ refused BadRange (bad_ranges mode lines)
+    ++ refused RepeatedEdge (repeats (edge_lines lines))
+    ++ refused TooManyEdges (take 1 (drop most_edges (edge_lines lines)))
 
 -- the weights among the fields of an edge line
 abbrev pub weights_in : Mode → List (List ℕ) → List (List ℕ)
@@ -51,3 +66,9 @@ fault_of_count line =
 abbrev pub refusal_at : ℕ → Option Why → Option Refusal
 refusal_at number None = None
 refusal_at number (Some why) = Some (record { line = number; why = why })
+
+-- No line is refused for itself or for the lines before it, and there is a count line.
+pub record NoneRefused (mode : Mode) (lines : List Line) : Type 0 where
+  pub no_runs : run_lines lines ≡ []
+  pub some : 0 < length (content_lines lines)
+  pub settled : earliest (settled_refusals mode lines) ≡ None

@@ -5,7 +5,7 @@ use Rattle.std.specs.Str.{bytes_eq}
 use Rattle.decomposition.specs.declared.Mode.{Mode}
 use Rattle.decomposition.specs.declared.Mode.TheVariants.{Exact, Interval, Abs}
 use Rattle.decomposition.specs.declared.Range.{Range}
-use Rattle.decomposition.specs.Graph.{Graph, graph_of, graph_before, edge_count, tail, head, is_inner, below}
+use Rattle.decomposition.specs.Graph.{Graph, graph_of, graph_before, tail, head, is_inner, below}
 use Rattle.decomposition.specs.Flow.{flow_into, flow_out_of}
 use Rattle.decomposition.specs.Instance.{Instance, range_at}
 use Rattle.decomposition.specs.Reach.{reaches}

@@ -1,17 +1,24 @@
 //! The reader of graph texts: blocks of a stream of bytes, in whatever pieces they come.
 #![tactic(auto)]
 
+mod accepted;
 mod block;
+mod cutter;
 mod draft;
+mod draft_graph;
+mod edge_line;
 mod examples;
 mod fields;
 mod labels;
 mod laws;
+mod open_line;
 mod reader;
 mod refusal;
 
+pub use accepted::{blocks_have_whole_lines, graphs_are_accepted};
 pub use block::{Block, RawGraph};
 pub use examples::{blocks_are_read, limits_are_kept, texts_are_cut};
 pub use labels::Labels;
-pub use laws::complete_blocks_stay;
+pub use laws::{blocks_of_texts, complete_blocks_stay, refusals_name_lines};
+pub use reader::BlockReader;
 pub use refusal::{Refusal, Why};

@@ -3,7 +3,7 @@ use Rattle.std.proofs.Common.{◌≡◌, ℕ, ◌+◌, ◌<◌, List, [], ◌∷
 use Rattle.std.specs.Prelude.{Result, Ok, Err, OnOk, OnErr, flat_map}
 use Rattle.std.proofs.lemmas.List.{take-append-drop, take_more, take_at}
 use Rattle.std.proofs.lemmas.List.Concat.{flat_map-append}
-use Rattle.flow_io.specs.Adding.{Adds-then, Adds-nothing}
+use Rattle.flow_io.proofs.Adding.{Adds-then, Adds-nothing}
 use Rattle.flow_io.specs.Outside.{Adds, AddsPrefix}
 use Rattle.path_report.specs.Sending.{Sends, Stops}
 

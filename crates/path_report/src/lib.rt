@@ -3,6 +3,7 @@
 
 mod digits;
 pub mod examples;
+pub mod laws;
 mod page;
 mod report;
 mod solved;

@@ -1,6 +1,6 @@
 use Rattle.std.proofs.Common.{◌+◌, sym, ap, subst, ◌∙◌}
 use Rattle.dag_net.specs.Peeling.{AreSourcesBelow}
-use Rattle.dag_net.proofs.PeelingSteps.{AreSourcesBelow-none, AreSourcesBelow-more, AreSourcesBelow-skip}
+use Rattle.dag_net.proofs.Sources.{AreSourcesBelow-none, AreSourcesBelow-more, AreSourcesBelow-skip}
 use Rattle.dag_net.proofs.order.sources.Goals as goal
 use Rattle.dag_net.proofs.order.sources.Goals.{then-count-eq0+in_ok-push, else-count-eq0}
 

@@ -1,7 +1,7 @@
 use Rattle.std.proofs.Common.{List, ℕ, length, subst}
 use Rattle.decomposition.specs.Graph.{graph_of}
 use Rattle.dag_net.specs.Peeling.{AreSourcesBelow}
-use Rattle.dag_net.proofs.PeelingSteps.{Peels-first}
+use Rattle.dag_net.proofs.Sources.{Peels-first}
 use Rattle.dag_net.proofs.order.Peeling.new.Goals as goal
 
 pub returns : goal.returns

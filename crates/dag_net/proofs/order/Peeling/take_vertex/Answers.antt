@@ -3,7 +3,8 @@ use Rattle.std.specs.Option.{option_map_or}
 use Rattle.std.proofs.lemmas.List.{get_or_read}
 use Rattle.decomposition.specs.Graph.{graph_of}
 use Rattle.dag_net.specs.Chain.{IsFirstOut}
-use Rattle.dag_net.proofs.PeelingSteps.{below-place, IsFirstOut-next, Takes-first, Takes-waits, Takes-more, Takes-all, cursor-falls}
+use Rattle.dag_net.proofs.PeelingSteps.{below-place}
+use Rattle.dag_net.proofs.Taking.{IsFirstOut-next, Takes-first, Takes-waits, Takes-more, Takes-all, cursor-falls}
 use Rattle.dag_net.proofs.order.Peeling.take_vertex.Goals as goal
 
 pub index-out-requires : goal.index-out-requires

@@ -1,7 +1,7 @@
 use Rattle.std.proofs.Common.{◌-◌, length, slice_index, vec_len}
 use Rattle.std.specs.Option.{option_map_or}
 use Rattle.decomposition.specs.Graph.{graph_of}
-use Rattle.dag_net.proofs.PeelingSteps.{Takes}
+use Rattle.dag_net.proofs.Taking.{Takes}
 use Rattle.dag_net.proofs.order.Peeling.take_vertex.Given as goal
 
 abbrev pub invariant-loop-out : goal.invariant-loop-out

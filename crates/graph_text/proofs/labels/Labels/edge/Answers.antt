@@ -1,7 +1,7 @@
 use Rattle.std.proofs.Common.{ℕ, Some, ap, ◌∙◌, position}
 use Rattle.decomposition.specs.Graph.{same_ends}
 use Rattle.graph_text.specs.Labels.{LabelLists}
-use Rattle.graph_text.proofs.Naming.{same_ends-Decides}
+use Rattle.decomposition.proofs.Nets.{same_ends-Decides}
 use Rattle.graph_text.proofs.Places.{position-Decides}
 use Rattle.graph_text.proofs.labels.Labels.edge.Goals as goal
 

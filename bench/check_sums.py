@@ -1,0 +1,110 @@
+"""Checks the reports of accepted graphs against their graphs, apart from the program.
+
+    check_sums.py GRAPHS REPORTS
+
+Each graph begins with a `#` line, has no constraint line, and is balanced, as generate.py writes them. Of each report it is
+checked that number and name are the graph's, that each path leads from a source to a sink over edges of the graph, that the
+weights of the paths through an edge sum to its weight, that there is at most one path for each edge of positive weight, that
+`upper` is their number, and that they stand by falling weight, those of equal weight by rising edge list.
+"""
+import sys
+
+
+def lines_of(path):
+    with open(path, "rb") as file:
+        for line in file:
+            yield line.rstrip(b"\n")
+
+
+def graphs_of(path):
+    """For each graph its name and its edges, as pairs of names with a weight, in file order."""
+    name, count, edges = None, False, {}
+    for line in lines_of(path):
+        fields = line.split()
+        if not fields:
+            continue
+        if fields[0].startswith(b"#"):
+            if count:
+                yield name, edges
+                name, count, edges = None, False, {}
+            if name is None:
+                name = line.strip()[1:].strip()
+        elif not count:
+            count = True
+        else:
+            tail, head, weight = fields
+            edges[tail, head] = int(weight)
+    if count:
+        yield name, edges
+
+
+def reports_of(path):
+    report = []
+    for line in lines_of(path):
+        report.append(line)
+        if line == b"end":
+            yield report
+            report = []
+    if report:
+        yield report
+
+
+def first_fault(number, name, edges, report):
+    """What is wrong with a report, or None."""
+    if len(report) < 7:
+        return "it is too short"
+    if report[0] != b" ".join([b"graph", b"%d" % number] + [name] * bool(name)):
+        return "the number or the name is another"
+    if report[1:4] != [b"model exact", b"mark found", b"lower 0"]:
+        return "the model, the mark or the lower bound is another"
+    if report[-2:] != [b"cert none", b"end"]:
+        return "the end is another"
+    if report[4] != b"upper %d" % len(report[5:-2]):
+        return "upper is not the number of paths"
+    return first_path_fault(edges, report[5:-2])
+
+
+def first_path_fault(edges, lines):
+    place = {edge: number for number, edge in enumerate(edges)}
+    tails, heads = {tail for tail, _ in edges}, {head for _, head in edges}
+    sums = dict.fromkeys(edges, 0)
+    entries = []
+    for line in lines:
+        word, weight, *names = line.split(b" ")
+        path = list(zip(names, names[1:]))
+        if word != b"path" or not path or any(edge not in place for edge in path):
+            return "a line is no path of the graph"
+        if names[0] in heads or names[-1] in tails:
+            return "a path does not lead from a source to a sink"
+        if int(weight) < 1:
+            return "a weight is below 1"
+        for edge in path:
+            sums[edge] += int(weight)
+        entries.append((-int(weight), [place[edge] for edge in path]))
+    if sums != edges:
+        return "the weights of the paths do not sum to those of the edges"
+    if len(entries) > sum(weight > 0 for weight in edges.values()):
+        return "there are more paths than edges of positive weight"
+    if any(first >= second for first, second in zip(entries, entries[1:])):
+        return "the paths do not stand in order"
+    return None
+
+
+def main(graphs, reports):
+    left = reports_of(reports)
+    number = paths = 0
+    for number, (name, edges) in enumerate(graphs_of(graphs), 1):
+        report = next(left, [])
+        fault = first_fault(number, name, edges, report)
+        if fault:
+            sys.exit(f"check_sums.py: report {number}: {fault}")
+        paths += len(report) - 7
+    if next(left, None) is not None:
+        sys.exit("check_sums.py: there are more reports than graphs")
+    print(f"{number} graphs, {paths} paths: every sum is right")
+
+
+if __name__ == "__main__":
+    if len(sys.argv) != 3:
+        sys.exit(__doc__)
+    main(sys.argv[1], sys.argv[2])

@@ -1,0 +1,4 @@
+pub mod Words
+pub mod Right
+pub mod Run
+pub mod Reporting

@@ -1,0 +1,76 @@
+-- How far a run has come: what it took of its input, and what it wrote.
+use Rattle.std.specs.Prelude.{◌≡◌, ◌⊎◌, ◌^◌, ℕ, ◌≤◌, ◌<◌, List, [], ◌∷◌, ◌++◌, length, ◌==◌, All, false, Option, Some, None}
+use Rattle.std.specs.List.{list_any}
+use Rattle.flow_io.specs.Outside.{Selected, Adds, Took}
+use Rattle.flow_io.specs.declared.status.Status.{Status}
+use Rattle.flow_io.specs.declared.status.Status.TheVariants.{Fault, Memory, Long}
+use Rattle.graph_text.specs.Blocks.{TextBlock, blocks, complete}
+use Rattle.graph_text.specs.Reader.{StandsFor, handed, mode_of, waiting_of, has_failed, has_finished}
+use Rattle.graph_text.specs.declared.block.Block.{Block}
+use Rattle.graph_text.specs.declared.reader.BlockReader.{BlockReader}
+use Rattle.decomposition.specs.declared.Mode.{Mode}
+use Rattle.flowpaths_cli.specs.declared.settings.Settings.{Settings}
+use Rattle.flowpaths_cli.specs.Run.{IsDone, IsOutput, IsOutputWith, IsFirstOutput, BeginsOutput}
+
+-- nothing is left of the selected input, where the selection is told
+abbrev pub IsAtEnd : Option (Option Selected) → Type 0
+IsAtEnd None = Unit {0}
+IsAtEnd (Some None) = Unit {0}
+IsAtEnd (Some (Some s)) = s.left ≡ []
+
+-- one right report for each of these blocks was written, and this is the status of these reports
+abbrev pub Wrote : Settings → List TextBlock → Status → Option (List ℕ) → Option (List ℕ) → Type 0
+Wrote s shown status before after = (text : List ℕ) × IsOutputWith s status shown text × Adds before after text
+
+-- one right report for each of these blocks was written
+abbrev pub WroteAll : Settings → List TextBlock → Option (List ℕ) → Option (List ℕ) → Type 0
+WroteAll s shown before after = (text : List ℕ) × IsOutput s shown text × Adds before after text
+
+-- one right report for each of some first ones of these blocks was written
+abbrev pub WroteFirst : Settings → List TextBlock → Option (List ℕ) → Option (List ℕ) → Type 0
+WroteFirst s shown before after = (text : List ℕ) × IsFirstOutput s shown text × Adds before after text
+
+-- the same, and the last report was perhaps cut off
+abbrev pub WroteBeginning : Settings → List TextBlock → Option (List ℕ) → Option (List ℕ) → Type 0
+WroteBeginning s shown before after = (text : List ℕ) × BeginsOutput s shown text × Adds before after text
+
+-- Between two pieces of the input: the reader stands for the bytes taken, and each complete block is reported.
+pub record Underway (s : Settings) (reader : BlockReader) (bytes : List ℕ) (status : Status) (before now : Option (List ℕ)) : Type 0 where
+  pub stands : StandsFor reader bytes
+  pub none_waits : waiting_of reader ≡ None
+  pub works : has_failed reader ≡ false
+  pub goes_on : has_finished reader ≡ false
+  pub mode_is : mode_of reader ≡ s.mode
+  pub wrote : Wrote s (complete bytes) status before now
+
+-- a block of a text: its numbers count from 1, and no line of it has a line feed
+pub record IsTextBlock (block : TextBlock) : Type 0 where
+  pub index_from : 1 ≤ block.index
+  pub line_from : 1 ≤ block.line
+  pub no_feeds : All (λ line. list_any (λ b. b == 10) line ≡ false) block.lines
+
+-- the block is handed out for a block of a text
+pub record IsHandedFor (mode : Mode) (block : TextBlock) (handed_out : Block) : Type 0 where
+  pub is_block : IsTextBlock block
+  pub is_handed : handed mode block ≡ handed_out
+
+-- the block that waits, if one does, is handed out for the one block of the list; else the list is empty
+abbrev pub AreHandedFor : Mode → List TextBlock → Option Block → Type 0
+AreHandedFor mode texts None = texts ≡ []
+AreHandedFor mode texts (Some block) = (text : TextBlock) × (texts ≡ text ∷ []) × IsHandedFor mode text block
+
+-- the run is between two pieces, after fewer than so many bytes
+abbrev pub IsUnderway : Settings → BlockReader → ℕ → Status → Option (List ℕ) → Type 0
+IsUnderway s reader most status now =
+    (bytes : List ℕ) × (before : Option (List ℕ)) × (length bytes < most) × Underway s reader bytes status before now
+
+-- What a run took and wrote, by its status. Where the input was seen to end, the last block counts among those that may be reported.
+pub record EndsRight (s : Settings) (status : Status) (first last : Option (Option Selected)) (before now : Option (List ℕ)) (out_rose : Type 0) : Type 0 where
+  pub bytes : List ℕ
+  pub took : Took first last bytes
+  pub most : length bytes ≤ 2 ^ 30
+  pub done : IsDone status → IsAtEnd last × (length bytes < 2 ^ 30) × Wrote s (blocks bytes) status before now
+  pub long : status ≡ Long → (length bytes ≡ 2 ^ 30) × WroteAll s (complete bytes) before now
+  pub fault : status ≡ Fault → WroteBeginning s (complete bytes) before now ⊎ (IsAtEnd last × WroteBeginning s (blocks bytes) before now)
+  pub written : status ≡ Fault → (out_rose → ⊥) → WroteAll s (complete bytes) before now
+  pub memory : status ≡ Memory → WroteFirst s (complete bytes) before now ⊎ (IsAtEnd last × WroteFirst s (blocks bytes) before now)

@@ -1,0 +1,117 @@
+-- What a run of the top call took and wrote.
+use Rattle.std.specs.Prelude.{◌≡◌, ◌≢◌, ◌⊎◌, ℕ, ◌-◌, ◌^◌, ◌<◌, ◌≤◌, List, [], ◌∷◌, ◌++◌, length, take, if◌then◌else◌, Option, Some, None, IfSome, codes}
+use Rattle.std.specs.Str.{bytes_eq}
+use Rattle.flow_io.specs.Outside.{Selected, Adds, AddsPrefix}
+use Rattle.flow_io.specs.declared.status.Status.{Status}
+use Rattle.flow_io.specs.declared.status.Status.TheVariants.{Clean, Partial, Refused, Words, Fault, Memory, Long}
+use Rattle.graph_text.specs.Blocks.{TextBlock, blocks, complete}
+use Rattle.path_report.specs.declared.report.Report.{Report}
+use Rattle.flowpaths_cli.specs.Right.{IsReportOf, status_of}
+use Rattle.flowpaths_cli.specs.declared.settings.Settings.{Settings}
+
+-- what the inputs tell of a run: the bytes that the named input holds, and what is selected at the end
+pub record Seen : Type 0 where
+  pub held : List ℕ
+  pub last : Option Selected
+
+-- P holds of what the inputs tell, if they tell it
+abbrev pub WhereSeen : Option (List ℕ) → Option (Option Selected) → (Seen → Type 0) → Type 0
+WhereSeen None last P = Unit {0}
+WhereSeen (Some held) None P = Unit {0}
+WhereSeen (Some held) (Some last) P = P (record { held = held; last = last })
+
+-- the run added a text of which P holds, if the output tells what it holds
+abbrev pub WhereWritten : Option (List ℕ) → Option (List ℕ) → (List ℕ → Type 0) → Type 0
+WhereWritten None after P = Unit {0}
+WhereWritten (Some before) after P = (text : List ℕ) × (after ≡ Some (before ++ text)) × P text
+
+-- the bytes left of this input, where it is the selected one
+abbrev pub left_of : List ℕ → Option Selected → Option (List ℕ)
+left_of file None = None
+left_of file (Some s) = if bytes_eq s.name file then Some s.left else None
+
+-- the bytes taken: those that are held without those that are left
+abbrev pub bytes_without : List ℕ → Option (List ℕ) → List ℕ
+bytes_without held None = []
+bytes_without held (Some left) = take (length held - length left) held
+
+abbrev pub taken : List ℕ → Seen → List ℕ
+taken file seen = bytes_without seen.held (left_of file seen.last)
+
+-- the input is the selected one, nothing is left of it, and fewer than 2^30 bytes of it were taken
+pub record HasEnded (file : List ℕ) (seen : Seen) : Type 0 where
+  pub nothing_left : left_of file seen.last ≡ Some []
+  pub short : length (taken file seen) < 2 ^ 30
+
+-- the blocks that a cut off run may have reported: all of them where nothing is left, and else the complete ones
+abbrev pub blocks_at : List ℕ → Option (List ℕ) → List TextBlock
+blocks_at bytes None = complete bytes
+blocks_at bytes (Some []) = blocks bytes
+blocks_at bytes (Some (b ∷ left)) = complete bytes
+
+abbrev pub shown : List ℕ → Seen → List TextBlock
+shown file seen = blocks_at (taken file seen) (left_of file seen.last)
+
+-- the text is the texts of these reports, one for each block, in order, each right and true for its block
+abbrev pub AreReports : Settings → List TextBlock → List Report → List ℕ → Type 0
+AreReports s [] [] text = text ≡ []
+AreReports s [] (report ∷ reports) text = ⊥
+AreReports s (block ∷ others) [] text = ⊥
+AreReports s (block ∷ others) (report ∷ reports) text = (first : List ℕ) × (rest : List ℕ) × (text ≡ first ++ rest)
+    × IsReportOf s block report first × AreReports s others reports rest
+
+-- the text is an output for these blocks: the texts of one right report for each of them
+abbrev pub IsOutput : Settings → List TextBlock → List ℕ → Type 0
+IsOutput s blocks text = (reports : List Report) × AreReports s blocks reports text
+
+-- the text is an output for these blocks, and the status is that of its reports
+abbrev pub IsOutputWith : Settings → Status → List TextBlock → List ℕ → Type 0
+IsOutputWith s status blocks text = (reports : List Report) × AreReports s blocks reports text × (status ≡ status_of reports)
+
+-- the text is an output for some first ones of these blocks
+abbrev pub IsFirstOutput : Settings → List TextBlock → List ℕ → Type 0
+IsFirstOutput s blocks text = (n : ℕ) × IsOutput s (take n blocks) text
+
+-- the text is a beginning of an output for some first ones of these blocks
+abbrev pub BeginsOutput : Settings → List TextBlock → List ℕ → Type 0
+BeginsOutput s blocks text = (rest : List ℕ) × IsFirstOutput s blocks (text ++ rest)
+
+-- the answers after which the input was read to its end
+abbrev pub IsDone : Status → Type 0
+IsDone Clean = Unit {0}
+IsDone Partial = Unit {0}
+IsDone Refused = Unit {0}
+IsDone Words = ⊥
+IsDone Fault = ⊥
+IsDone Memory = ⊥
+IsDone Long = ⊥
+
+-- what a run with this status took of its input
+pub record Reads (s : Settings) (status : Status) (seen : Seen) : Type 0 where
+  pub most : status ≢ Memory → length (taken s.file seen) ≤ 2 ^ 30
+  pub rest : status ≢ Memory → IfSome (left_of s.file seen.last) (λ left. seen.held ≡ taken s.file seen ++ left)
+  pub ended : IsDone status → HasEnded s.file seen
+  pub long : status ≡ Long → length (taken s.file seen) ≡ 2 ^ 30
+  pub verdict : IsDone status → (text : List ℕ) × IsOutputWith s status (blocks (taken s.file seen)) text
+
+-- what a run with this status wrote
+pub record Writes (s : Settings) (status : Status) (out_rose : Type 0) (seen : Seen) (text : List ℕ) : Type 0 where
+  pub done : IsDone status → IsOutputWith s status (blocks (taken s.file seen)) text
+  pub long : status ≡ Long → IsOutput s (complete (taken s.file seen)) text
+  pub fault : status ≡ Fault → BeginsOutput s (shown s.file seen) text
+  pub written : status ≡ Fault → (out_rose → ⊥) → IsOutput s (complete (taken s.file seen)) text
+  pub memory : status ≡ Memory → IsFirstOutput s (shown s.file seen) text
+
+-- the line of each answer for `notes`
+abbrev pub note_of : Status → List ℕ
+note_of Clean = []
+note_of Partial = []
+note_of Refused = []
+note_of Words = codes "usage: flowpaths [--model exact|interval|abs] [--paths K] [--nodes N] [--safe] [--demo SEED] [FILE]\n"
+note_of Fault = codes "flowpaths: read or write fault\n"
+note_of Memory = codes "flowpaths: out of memory\n"
+note_of Long = codes "flowpaths: input too long\n"
+
+-- the line was added, or a beginning of it where the count of faults rose
+abbrev pub Notes : List ℕ → Option (List ℕ) → Option (List ℕ) → Type 0 → Type 0
+Notes line before after rose = Adds before after line ⊎ (rose × AddsPrefix before after line)

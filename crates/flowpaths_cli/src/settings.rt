@@ -1,0 +1,19 @@
+//! What the words of the command line give.
+
+use dag_net::Mode;
+use flow_io::Word;
+
+/// How an input is read and solved.
+#[derive(Drop)]
+pub struct Settings {
+    /// What is asked of an answer.
+    pub mode: Mode,
+    /// The most tokens of a search.
+    pub nodes: u32,
+    /// Whether the safe runs are listed.
+    pub safe: bool,
+    /// The seed of the generated text, if that is solved in place of an input.
+    pub demo: Option<u64>,
+    /// The name of the input, `-` for standard input.
+    pub file: Word,
+}

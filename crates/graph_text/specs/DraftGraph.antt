@@ -1,0 +1,28 @@
+-- What the graph in a draft stands for: the edge lines that it was given.
+use Rattle.std.specs.Prelude.{◌≡◌, ℕ, List, map, length, flat_map, Contains, All}
+use Rattle.decomposition.specs.declared.Mode.{Mode}
+use Rattle.graph_text.specs.declared.draft_graph.DraftGraph.{DraftGraph}
+use Rattle.graph_text.specs.Labels.{LabelLists}
+use Rattle.graph_text.specs.Reading.{Line, ends_of, distinct, vertex_of, edge_of, range_of}
+
+-- some edge leads from the vertex of the first name to that of the second
+pub record HasEdge (labels : LabelLists) (tail head : List ℕ) : Type 0 where
+  pub tail_named : Contains labels.names tail
+  pub head_named : Contains labels.names head
+  pub joined : Contains labels.edges (vertex_of labels.names tail, vertex_of labels.names head)
+
+-- the names that edge lines mention
+abbrev pub names_mentioned : List Line → List (List ℕ)
+names_mentioned edges = distinct (flat_map ends_of edges)
+
+-- the numbers of lines
+abbrev pub numbers_of : List Line → List ℕ
+numbers_of lines = map (λ l. l.number) lines
+
+-- a draft graph of these edge lines
+pub record HoldsEdges (mode : Mode) (edges : List Line) (graph : DraftGraph) : Type 0 where
+  pub names : graph.labels.names ≡ names_mentioned edges
+  pub edges_are : graph.labels.edges ≡ map (edge_of (names_mentioned edges)) edges
+  pub ranges_are : graph.ranges ≡ map (range_of mode) edges
+  pub numbers : graph.edge_numbers.items ≡ numbers_of edges
+  pub shaped : All (λ l. length (ends_of l) ≡ 2) edges

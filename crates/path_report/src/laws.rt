@@ -1,0 +1,20 @@
+//! When a report is regular: each function has an empty body, and its contract is the law.
+ghost use Rattle.std.specs.Prelude.{IsTrue};
+ghost use Rattle.graph_text.specs.Blocks.{TextBlock, IsTextBlock, name_of};
+ghost use Rattle.path_report.specs.Laws.{FoundIsRegular, ReportsAreRegular};
+ghost use Rattle.path_report.specs.ReportText.{is_name};
+
+/// What was found in a net is regular for all labels with its edges.
+pub fn found_is_regular()
+    ensures { FoundIsRegular }
+{}
+
+/// A report on a net is regular for all labels with its edges.
+pub fn reports_are_regular()
+    ensures { ReportsAreRegular }
+{}
+
+/// The name of a block of a text may stand in a report.
+pub fn names_of_blocks()
+    ensures { (block : TextBlock) → IsTextBlock block → IsTrue (is_name (name_of block)) }
+{}
