@@ -1,0 +1,57 @@
+use Rattle.std.proofs.Common.{◌≡◌, ◌<◌, length, Some, inl, inr, slice_index, sym, ◌∙◌, arith}
+use Rattle.std.proofs.lemmas.Result.{on_ok_weaker}
+use Rattle.decomposition.specs.Graph.{tail}
+use Rattle.path_cover.specs.Search.{is_set, entry_at, Enters}
+use Rattle.path_cover.proofs.Searching.{entry-read, IsEntered, IsEntered-from}
+use Rattle.path_cover.proofs.search.Search.follow.Goals as goal
+use Rattle.path_cover.proofs.search.Search.follow.Goals.{After-enter, After-enter-then-can_spare}
+
+against : (c : After-enter) → Enters c.args.self.now.entries.items c.args.self.now.marked.items (record { vertex = c.tail.result; way = Some (c.args.e, c.args.k) }) c.enter.new.self.entries.items c.enter.new.self.marked.items
+    → IsEntered c.args.net.now (is_set c.args.needed.now) (slice_index c.args.flow.now) c.args.self.now.entries.items c.args.self.now.marked.items (record { vertex = c.tail.result; way = Some (c.args.e, c.args.k) }) c.enter.new.self.entries.items c.enter.new.self.marked.items
+against c enters =
+    let entries = c.args.self.now.entries.items in
+    let within : c.args.k < length entries = omega (arith, c.requires.place, c.args.self.now.entries.ok.0) in
+    let read = entry-read entries c.args.k c.index.result.now within c.index.ensures in
+    IsEntered-from c.args.net.now (is_set c.args.needed.now) (slice_index c.args.flow.now) c.args.self.now.entries.items c.args.self.now.marked.items (record { vertex = c.tail.result; way = Some (c.args.e, c.args.k) }) c.enter.new.self.entries.items c.enter.new.self.marked.items
+    c.requires.search c.tail.ensures.vertex
+    (record {
+      edge = c.requires.edge;
+      earlier = omega (arith, c.requires.place, c.args.self.now.entries.ok.0);
+      goes_on = c.requires.goes_on;
+      step = inr (sym c.head.ensures.head ∙ c.if-head-index.true ∙ read, sym c.tail.ensures.tail);
+    })
+    enters
+
+along : (c : After-enter-then-can_spare) → Enters c.args.self.now.entries.items c.args.self.now.marked.items (record { vertex = c.head-then-can_spare.result; way = Some (c.args.e, c.args.k) }) c.enter-then-can_spare.new.self.entries.items c.enter-then-can_spare.new.self.marked.items
+    → IsEntered c.args.net.now (is_set c.args.needed.now) (slice_index c.args.flow.now) c.args.self.now.entries.items c.args.self.now.marked.items (record { vertex = c.head-then-can_spare.result; way = Some (c.args.e, c.args.k) }) c.enter-then-can_spare.new.self.entries.items c.enter-then-can_spare.new.self.marked.items
+along c enters =
+    let entries = c.args.self.now.entries.items in
+    let within : c.args.k < length entries = omega (arith, c.requires.place, c.args.self.now.entries.ok.0) in
+    let read = entry-read entries c.args.k c.index.result.now within c.index.ensures in
+    let leaves : tail c.args.net.now c.args.e ≡ (entry_at c.args.self.now.entries.items c.args.k).vertex
+    = elim c.requires.end [ inl at ↦ at | inr at ↦ absurd (c.if-head-index.false (c.head.ensures.head ∙ at ∙ sym read)) ] in
+    IsEntered-from c.args.net.now (is_set c.args.needed.now) (slice_index c.args.flow.now) c.args.self.now.entries.items c.args.self.now.marked.items (record { vertex = c.head-then-can_spare.result; way = Some (c.args.e, c.args.k) }) c.enter-then-can_spare.new.self.entries.items c.enter-then-can_spare.new.self.marked.items
+    c.requires.search c.head-then-can_spare.ensures.vertex
+    (record {
+      edge = c.requires.edge;
+      earlier = omega (arith, c.requires.place, c.args.self.now.entries.ok.0);
+      goes_on = c.requires.goes_on;
+      step = inl (leaves, sym c.head-then-can_spare.ensures.head, c.can_spare.ensures.0 c.if-can_spare.true);
+    })
+    enters
+
+pub returns-then-head-index-clause-search : goal.returns-then-head-index-clause-search
+returns-then-head-index-clause-search c =
+    on_ok_weaker c.enter.result (λ enters. (against (goal.at.returns-then-head-index-clause-search c).After-enter enters).search) c.enter.ensures
+
+pub returns-then-head-index-clause-grows : goal.returns-then-head-index-clause-grows
+returns-then-head-index-clause-grows c =
+    on_ok_weaker c.enter.result (λ enters. (against (goal.at.returns-then-head-index-clause-grows c).After-enter enters).grows) c.enter.ensures
+
+pub returns-then-can_spare-clause-search : goal.returns-then-can_spare-clause-search
+returns-then-can_spare-clause-search c =
+    on_ok_weaker c.enter-then-can_spare.result (λ enters. (along (goal.at.returns-then-can_spare-clause-search c).After-enter-then-can_spare enters).search) c.enter-then-can_spare.ensures
+
+pub returns-then-can_spare-clause-grows : goal.returns-then-can_spare-clause-grows
+returns-then-can_spare-clause-grows c =
+    on_ok_weaker c.enter-then-can_spare.result (λ enters. (along (goal.at.returns-then-can_spare-clause-grows c).After-enter-then-can_spare enters).grows) c.enter-then-can_spare.ensures

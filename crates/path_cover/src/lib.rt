@@ -1,0 +1,14 @@
+//! Path covers of needed edges, and antichains as large as they are.
+#![tactic(auto)]
+
+pub use covers::width;
+pub use found::Width;
+
+mod carrying;
+mod covers;
+mod entering;
+mod found;
+mod lessening;
+mod search;
+mod splitting;
+mod ways;
