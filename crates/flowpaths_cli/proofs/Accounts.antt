@@ -52,7 +52,7 @@ where_took P file (Some whole) (Some (Some s)) (Some last) bytes starts took hol
     let here : At file = holds rest (λ end. subst (λ l. IsAtEnd (Some l)) ends end) in
     let named_so : At s.name = subst At (sym named) here in
     let held_so : P (record { held = whole; last = Some (skipped (length bytes) s) }) =
-        subst (λ h. P (record { held = h; last = Some (skipped (length bytes) s) })) (sym all) named_so in
+    subst (λ h. P (record { held = h; last = Some (skipped (length bytes) s) })) (sym all) named_so in
     subst (λ l. P (record { held = whole; last = l })) (sym ends) held_so
 
 -- what was read
@@ -142,19 +142,22 @@ written-at s Fault first last (Some start) now rose right rest at_end =
     let wrote : WroteBeginning s (blocks_at right.bytes (Some rest)) (Some start) now = elim (right.fault refl) [
       | inl some ↦ at_beginning s right.bytes rest (Some start) now some
       | inr all ↦ subst (λ r. WroteBeginning s (blocks_at right.bytes (Some r)) (Some start) now) (sym (at_end all.0)) all.1
-    ] in
-    (wrote.0, wrote.2, record {
-      done = λ h. absurd h;
-      long = λ e. absurd (let no' : ⊥ = cc in no');
-      fault = λ _. subst (λ l. BeginsOutput s l wrote.0) (sym (shown-at s.file right.bytes rest)) wrote.1;
-      written = λ _ quiet.
-        let all = right.written refl quiet in
-        let adds : Some (start ++ wrote.0) ≡ Some (start ++ all.0) = sym wrote.2 ∙ all.2 in
-        let same : start ++ wrote.0 ≡ start ++ all.0 = cc adds in
-        subst (λ b. IsOutput s (complete b) wrote.0) (sym (taken-at s.file right.bytes rest))
-        (subst (λ t. IsOutput s (complete right.bytes) t) (sym (append_cancel_left start wrote.0 all.0 same)) all.1);
-      memory = λ e. absurd (let no' : ⊥ = cc in no');
-    })
+    ] in (
+      wrote.0,
+      wrote.2,
+      record {
+        done = λ h. absurd h;
+        long = λ e. absurd (let no' : ⊥ = cc in no');
+        fault = λ _. subst (λ l. BeginsOutput s l wrote.0) (sym (shown-at s.file right.bytes rest)) wrote.1;
+        written = λ _ quiet.
+            let all = right.written refl quiet in
+            let adds : Some (start ++ wrote.0) ≡ Some (start ++ all.0) = sym wrote.2 ∙ all.2 in
+            let same : start ++ wrote.0 ≡ start ++ all.0 = cc adds in
+            subst (λ b. IsOutput s (complete b) wrote.0) (sym (taken-at s.file right.bytes rest))
+            (subst (λ t. IsOutput s (complete right.bytes) t) (sym (append_cancel_left start wrote.0 all.0 same)) all.1);
+        memory = λ e. absurd (let no' : ⊥ = cc in no');
+      },
+    )
 
 pub writes-right : (s : Settings) (status : Status) (held : Option (List ℕ)) (first last : Option (Option Selected)) (before now : Option (List ℕ)) (rose : Type 0) →
     Starts s.file held first → EndsRight s status first last before now rose → WhereSeen held last (λ seen. WhereWritten before now (Writes s status rose seen))

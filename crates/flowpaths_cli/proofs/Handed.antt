@@ -77,7 +77,7 @@ pub handed-regular : (mode : Mode) (text : TextBlock) (block : Block) (labels : 
 handed-regular mode text block labels body exact h small regular =
     let P : Mode → Type 0 = λ m. IsTrue (is_regular labels (record { index = block.index; name = block.name; mode = m; body = body })) in
     let index : IsTrue (nat_le 1 block.index && fits block.index) =
-        and_from (nat_le 1 block.index) (fits block.index) (le-leb 1 block.index (handed-index mode text block h)) (lt-ltb block.index (2 ^ 64) small) in
+    and_from (nat_le 1 block.index) (fits block.index) (le-leb 1 block.index (handed-index mode text block h)) (lt-ltb block.index (2 ^ 64) small) in
     let here : P Exact = and_from (nat_le 1 block.index && fits block.index) (is_name block.name && is_regular_body labels body) index
-        (and_from (is_name block.name) (is_regular_body labels body) (handed-name mode text block h) regular) in
+    (and_from (is_name block.name) (is_regular_body labels body) (handed-name mode text block h) regular) in
     subst P (sym exact) here

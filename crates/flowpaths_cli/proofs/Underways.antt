@@ -86,7 +86,7 @@ pub underway-more : (s : Settings) (first fed last : BlockReader) (bytes piece :
     Underway s first bytes status before old → Feeds first fed bytes piece n → has_failed fed ≡ false → has_finished fed ≡ has_finished first →
     mode_of fed ≡ mode_of first → IsTaken fed last →
     ((waiting : List TextBlock) → AreHandedFor s.mode waiting (waiting_of fed) → (shown : List TextBlock) (start : Option (List ℕ)) →
-        Wrote s shown status start old → Wrote s (shown ++ waiting) after start new) →
+    Wrote s shown status start old → Wrote s (shown ++ waiting) after start new) →
     Underway s last (bytes ++ take n piece) after before new
 underway-more s first fed last bytes piece n status after before old new under feeds works goes mode taken done =
     let g = grows-feed s first fed bytes piece n status before old feeds under in
@@ -142,7 +142,7 @@ underway-blocks s reader bytes status before now under =
 pub end-done : (s : Settings) (result : Result Status Stop) (old new : BlockReader) (status : Status) (out now : Option (List ℕ)) →
     ((bytes : List ℕ) → StandsFor old bytes → Ends old new bytes) →
     IfOk result (λ after. (waiting : List TextBlock) → AreHandedFor s.mode waiting (waiting_of new) → (shown : List TextBlock) (before : Option (List ℕ)) →
-        Wrote s shown status before out → Wrote s (shown ++ waiting) after before now) →
+    Wrote s shown status before out → Wrote s (shown ++ waiting) after before now) →
     IfOk result (λ after. (bytes : List ℕ) (before : Option (List ℕ)) → Underway s old bytes status before out → Wrote s (blocks bytes) after before now)
 end-done s (Ok after) old new status out now ends done = λ bytes before under.
     let g = grows-end s old new bytes status before out (ends bytes under.stands) under in
@@ -152,7 +152,7 @@ end-done s (Err stop) old new status out now ends done = tt
 pub end-cut : (s : Settings) (old new : BlockReader) (status : Status) (out now : Option (List ℕ)) →
     ((bytes : List ℕ) → StandsFor old bytes → Ends old new bytes) →
     ((waiting : List TextBlock) → AreHandedFor s.mode waiting (waiting_of new) → (shown : List TextBlock) (before : Option (List ℕ)) →
-        Wrote s shown status before out → WroteBeginning s (shown ++ waiting) before now) →
+    Wrote s shown status before out → WroteBeginning s (shown ++ waiting) before now) →
     (bytes : List ℕ) (before : Option (List ℕ)) → Underway s old bytes status before out → WroteBeginning s (blocks bytes) before now
 end-cut s old new status out now ends cut bytes before under =
     let g = grows-end s old new bytes status before out (ends bytes under.stands) under in
@@ -181,13 +181,13 @@ parts-more bytes piece d n =
 pub cut-goes_on : (s : Settings) (old new : BlockReader) (bytes piece : List ℕ) (d n : ℕ) (status : Status) (before out now : Option (List ℕ)) →
     Underway s old (bytes ++ take d piece) status before out → Feeds old new (bytes ++ take d piece) (take (length piece - d) (drop d piece)) n →
     ((waiting : List TextBlock) → AreHandedFor s.mode waiting (waiting_of new) → (shown : List TextBlock) (start : Option (List ℕ)) →
-        Wrote s shown status start out → WroteBeginning s (shown ++ waiting) start now) →
+    Wrote s shown status start out → WroteBeginning s (shown ++ waiting) start now) →
     WroteBeginning s (complete (bytes ++ piece)) before now
 cut-goes_on s old new bytes piece d n status before out now under feeds cut =
     let rest = take (length piece - d) (drop d piece) in
     let g = grows-feed s old new (bytes ++ take d piece) rest n status before out feeds under in
     let here : WroteBeginning s (complete ((bytes ++ take d piece) ++ take n rest)) before now =
-        subst (λ l. WroteBeginning s l before now) (sym g.joined) (cut g.waiting g.handed (complete (bytes ++ take d piece)) before under.wrote) in
+    subst (λ l. WroteBeginning s l before now) (sym g.joined) (cut g.waiting g.handed (complete (bytes ++ take d piece)) before under.wrote) in
     let there : WroteBeginning s (complete (bytes ++ take (d + n) piece)) before now =
-        subst (λ b. WroteBeginning s (complete b) before now) (parts-more bytes piece d n) here in
+    subst (λ b. WroteBeginning s (complete b) before now) (parts-more bytes piece d n) here in
     WroteBeginning-goes_on s (bytes ++ take (d + n) piece) (drop (d + n) piece) (bytes ++ piece) before now (parts-joined bytes piece (d + n)) there

@@ -17,9 +17,9 @@ one_handed mode waiting told block is handed = subst (AreHandedFor mode waiting)
 -- what is said of the one block is said of the list of those that wait
 pub done-waiting : (s : Settings) (result : Result Status Stop) (told : Option Block) (block : Block) (status : Status) (old new : Option (List ℕ)) → told ≡ Some block →
     IfOk result (λ after. (text : TextBlock) → IsHandedFor s.mode text block → (shown : List TextBlock) (before : Option (List ℕ)) →
-        Wrote s shown status before old → Wrote s (shown ++ text ∷ []) after before new) →
+    Wrote s shown status before old → Wrote s (shown ++ text ∷ []) after before new) →
     IfOk result (λ after. (waiting : List TextBlock) → AreHandedFor s.mode waiting told → (shown : List TextBlock) (before : Option (List ℕ)) →
-        Wrote s shown status before old → Wrote s (shown ++ waiting) after before new)
+    Wrote s shown status before old → Wrote s (shown ++ waiting) after before new)
 done-waiting s (Ok after) told block status old new is done = λ waiting handed shown before wrote.
     let one = one_handed s.mode waiting told block is handed in
     subst (λ w. Wrote s (shown ++ w) after before new) (sym one.1) (done one.0 one.2 shown before wrote)
@@ -27,9 +27,9 @@ done-waiting s (Err stop) told block status old new is done = tt
 
 pub cut-waiting : (s : Settings) (told : Option Block) (block : Block) (status : Status) (old new : Option (List ℕ)) → told ≡ Some block →
     ((text : TextBlock) → IsHandedFor s.mode text block → (shown : List TextBlock) (before : Option (List ℕ)) →
-        Wrote s shown status before old → WroteBeginning s (shown ++ text ∷ []) before new) →
+    Wrote s shown status before old → WroteBeginning s (shown ++ text ∷ []) before new) →
     (waiting : List TextBlock) → AreHandedFor s.mode waiting told → (shown : List TextBlock) (before : Option (List ℕ)) →
-        Wrote s shown status before old → WroteBeginning s (shown ++ waiting) before new
+    Wrote s shown status before old → WroteBeginning s (shown ++ waiting) before new
 cut-waiting s told block status old new is cut waiting handed shown before wrote =
     let one = one_handed s.mode waiting told block is handed in
     subst (λ w. WroteBeginning s (shown ++ w) before new) (sym one.1) (cut one.0 one.2 shown before wrote)

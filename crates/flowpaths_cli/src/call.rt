@@ -55,12 +55,7 @@ pub fn flowpaths<I: Inputs, O: Output, E: Output>(
 }
 
 /// The top call without its notes.
-fn run<I: Inputs, O: Output>(
-    alloc: Global,
-    words: &[String],
-    inputs: &mut I,
-    out: &mut O,
-) -> Status
+fn run<I: Inputs, O: Output>(alloc: Global, words: &[String], inputs: &mut I, out: &mut O) -> Status
     requires { IfSome (settings_of (texts words.now)) (λ s. IfNone s.demo (I.may_ask inputs.old s.file)) }
     ensures reads { IfSome (settings_of (texts words.now)) (λ s. IfNone s.demo
         (WhereSeen (I.holds inputs.old s.file) (I.selected inputs.new) (Reads s result))) }

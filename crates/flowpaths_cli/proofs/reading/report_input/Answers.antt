@@ -34,25 +34,25 @@ returns-then-count-eq0-clause-right g c =
     let room : 0 < length c.read.new.into = omega (arith, c.loop-total-test.true, c.min-room.ensures, c.min-room.array_long, c.read.auto.into, length-take c.min-room.result c.loop-total.buffer) in
     let here : run.0 ++ take c.in-Ok-read.count c.read.new.into ≡ run.0 = ap (λ n. run.0 ++ take n c.read.new.into) none ∙ append-nil run.0 in
     subst (λ status. EndsRight c.args.settings.now status (g.I.Inputs.selected c.args.inputs.now) (g.I.Inputs.selected c.read.new.self)
-        (g.O.Output.written c.args.out.now) (g.O.Output.written c.report_end.new.out) (Rose (g.O.Output.faults c.args.out.now) (g.O.Output.faults c.report_end.new.out)))
+    (g.O.Output.written c.args.out.now) (g.O.Output.written c.report_end.new.out) (Rose (g.O.Output.faults c.args.out.now) (g.O.Output.faults c.report_end.new.out)))
     (sym c.status_at.ensures)
     (right-end c.args.settings.now c.report_end.result run.0 _ _ _ _ _
-      (subst (Took (g.I.Inputs.selected c.args.inputs.now) (g.I.Inputs.selected c.read.new.self)) here
-        (Took-more _ _ _ run.0 c.read.new.into c.in-Ok-read.count run.2 c.in-Ok-read.ensures.count c.in-Ok-read.ensures.bytes c.in-Ok-read.ensures.left))
-      (at-end _ _ c.read.new.into c.in-Ok-read.count room none c.in-Ok-read.ensures.bytes c.in-Ok-read.ensures.left)
-      (omega (arith, run.1, c.loop-total-test.true))
-      (ok_then c.report_end.result _ (λ after. Wrote c.args.settings.now (blocks run.0) after (g.O.Output.written c.args.out.now) (g.O.Output.written c.report_end.new.out))
-        (λ after done. done run.0 (g.O.Output.written c.args.out.now) run.3) c.report_end.ensures.done)
-      (λ is. c.report_end.ensures.memory is run.0 _ run.3) (λ is. c.report_end.ensures.cut is run.0 _ run.3)
-      (λ is. Rose-before _ _ _ c.loop-total.invariant.3 (c.report_end.ensures.fault is)))
+    (subst (Took (g.I.Inputs.selected c.args.inputs.now) (g.I.Inputs.selected c.read.new.self)) here
+    (Took-more _ _ _ run.0 c.read.new.into c.in-Ok-read.count run.2 c.in-Ok-read.ensures.count c.in-Ok-read.ensures.bytes c.in-Ok-read.ensures.left))
+    (at-end _ _ c.read.new.into c.in-Ok-read.count room none c.in-Ok-read.ensures.bytes c.in-Ok-read.ensures.left)
+    (omega (arith, run.1, c.loop-total-test.true))
+    (ok_then c.report_end.result _ (λ after. Wrote c.args.settings.now (blocks run.0) after (g.O.Output.written c.args.out.now) (g.O.Output.written c.report_end.new.out))
+    (λ after done. done run.0 (g.O.Output.written c.args.out.now) run.3) c.report_end.ensures.done)
+    (λ is. c.report_end.ensures.memory is run.0 _ run.3) (λ is. c.report_end.ensures.cut is run.0 _ run.3)
+    (λ is. Rose-before _ _ _ c.loop-total.invariant.3 (c.report_end.ensures.fault is)))
 
 pub returns-then-count-eq0-clause-fault : goal.returns-then-count-eq0-clause-fault
 returns-then-count-eq0-clause-fault g c faulty =
     let run = c.loop-total.invariant.0 in
     let stopped : c.report_end.result ≡ Err Failed = ended-fault c.args.settings.now c.report_end.result (blocks run.0) (g.O.Output.written c.args.out.now) (g.O.Output.written c.report_end.new.out)
-        (ok_then c.report_end.result _ (λ after. Wrote c.args.settings.now (blocks run.0) after (g.O.Output.written c.args.out.now) (g.O.Output.written c.report_end.new.out))
-          (λ after done. done run.0 (g.O.Output.written c.args.out.now) run.3) c.report_end.ensures.done)
-        (sym c.status_at.ensures ∙ faulty) in
+    (ok_then c.report_end.result _ (λ after. Wrote c.args.settings.now (blocks run.0) after (g.O.Output.written c.args.out.now) (g.O.Output.written c.report_end.new.out))
+    (λ after done. done run.0 (g.O.Output.written c.args.out.now) run.3) c.report_end.ensures.done)
+    (sym c.status_at.ensures ∙ faulty) in
     inr (Rose-before _ _ _ c.loop-total.invariant.3 (c.report_end.ensures.fault stopped))
 
 pub report_piece-requires-clause-underway : goal.report_piece-requires-clause-underway
@@ -69,8 +69,16 @@ returns-in-Err-clause-right g c =
     let room : length c.read.new.into ≡ c.min-room.result = omega (arith, c.min-room.ensures, c.min-room.array_long, c.read.auto.into, length-take c.min-room.result c.loop-total.buffer) in
     right-stop c.args.settings.now c.in-Err.stop c.status.result (run.0 ++ take c.in-Ok-read.count c.read.new.into) _ _ _ _ _
     (Took-more _ _ _ run.0 c.read.new.into c.in-Ok-read.count run.2 c.in-Ok-read.ensures.count c.in-Ok-read.ensures.bytes c.in-Ok-read.ensures.left)
-    (omega (arith, run.1, length-append run.0 (take c.in-Ok-read.count c.read.new.into), length-take-le c.in-Ok-read.count c.read.new.into c.in-Ok-read.ensures.count,
-      c.loop-total-test.true, c.min-room.ensures, room, c.in-Ok-read.ensures.count))
+    (omega (
+      arith,
+      run.1,
+      length-append run.0 (take c.in-Ok-read.count c.read.new.into),
+      length-take-le c.in-Ok-read.count c.read.new.into c.in-Ok-read.ensures.count,
+      c.loop-total-test.true,
+      c.min-room.ensures,
+      room,
+      c.in-Ok-read.ensures.count,
+    ))
     c.status.ensures.memory c.status.ensures.fault
     (λ is. c.report_piece.ensures.memory (c.in-Err.is ∙ ap Err is) run.0 _ run.3)
     (λ is. c.report_piece.ensures.cut (c.in-Err.is ∙ ap Err is) run.0 _ run.3)
@@ -85,10 +93,13 @@ loop-total-preserved g c =
     let run = c.loop-total.invariant.0 in
     let room : length c.read.new.into ≡ c.min-room.result = omega (arith, c.min-room.ensures, c.min-room.array_long, c.read.auto.into, length-take c.min-room.result c.loop-total.buffer) in
     let long : length (run.0 ++ take c.in-Ok-read.count c.read.new.into) ≡ c.loop-total.total + c.in-Ok-read.count =
-        omega (arith, run.1, length-append run.0 (take c.in-Ok-read.count c.read.new.into), length-take-le c.in-Ok-read.count c.read.new.into c.in-Ok-read.ensures.count) in (
-      (run.0 ++ take c.in-Ok-read.count c.read.new.into, long,
+    omega (arith, run.1, length-append run.0 (take c.in-Ok-read.count c.read.new.into), length-take-le c.in-Ok-read.count c.read.new.into c.in-Ok-read.ensures.count) in (
+      (
+        run.0 ++ take c.in-Ok-read.count c.read.new.into,
+        long,
         Took-more _ _ _ run.0 c.read.new.into c.in-Ok-read.count run.2 c.in-Ok-read.ensures.count c.in-Ok-read.ensures.bytes c.in-Ok-read.ensures.left,
-        c.in-Ok-report_piece.ensures.done run.0 _ run.3),
+        c.in-Ok-report_piece.ensures.done run.0 _ run.3,
+      ),
       omega (arith, c.loop-total-test.true, c.in-Ok-read.ensures.count, room, c.min-room.ensures),
       omega (arith, c.loop-total.invariant.2, c.in-Ok-read.ensures.cause.later),
       omega (arith, c.loop-total.invariant.3, c.in-Ok-report_piece.ensures.later),

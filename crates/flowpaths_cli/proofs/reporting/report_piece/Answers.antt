@@ -15,9 +15,17 @@ pub feed-requires-clause-lines_fit : goal.feed-requires-clause-lines_fit
 feed-requires-clause-lines_fit g c works =
     let bytes = c.requires.underway.0 in
     let under = c.loop-done.invariant.1 bytes c.requires.underway.1 c.requires.underway.3 in
-    omega (arith, line-within _ c.loop-done.reader _ _ _ _ under, c.requires.underway.2, c.requires.short, c.loop-done.invariant.0,
-      length-append bytes (take c.loop-done.done c.args.piece.now), length-take-le c.loop-done.done c.args.piece.now c.loop-done.invariant.0,
-      ap length (take_rest c.args.piece.now c.loop-done.done), length-drop c.loop-done.done c.args.piece.now)
+    omega (
+      arith,
+      line-within _ c.loop-done.reader _ _ _ _ under,
+      c.requires.underway.2,
+      c.requires.short,
+      c.loop-done.invariant.0,
+      length-append bytes (take c.loop-done.done c.args.piece.now),
+      length-take-le c.loop-done.done c.args.piece.now c.loop-done.invariant.0,
+      ap length (take_rest c.args.piece.now c.loop-done.done),
+      length-drop c.loop-done.done c.args.piece.now,
+    )
 
 pub returns-in_err-done-clause-memory : goal.returns-in_err-done-clause-memory
 returns-in_err-done-clause-memory g c stopped bytes before under =
@@ -52,19 +60,19 @@ pub loop-done-smaller : goal.loop-done-smaller
 loop-done-smaller g c =
     let under = c.loop-done.invariant.1 c.requires.underway.0 c.requires.underway.1 c.requires.underway.3 in
     let rest : length (take (length c.args.piece.now - c.loop-done.done) (drop c.loop-done.done c.args.piece.now)) ≡ length c.args.piece.now - c.loop-done.done =
-        ap length (take_rest c.args.piece.now c.loop-done.done) ∙ length-drop c.loop-done.done c.args.piece.now in
+    ap length (take_rest c.args.piece.now c.loop-done.done) ∙ length-drop c.loop-done.done c.args.piece.now in
     omega (arith, rest, c.loop-done-test.true, feeds-some c.loop-done.reader c.feed.new.self _ _ _ (c.in_ok-done.ensures.feeds under.none_waits _ under.stands) (omega (arith, rest, c.loop-done-test.true)))
 
 pub loop-done-preserved : goal.loop-done-preserved
 loop-done-preserved g c = (
   omega (arith, c.in_ok-done.ensures.count, c.loop-done.invariant.0, ap length (take_rest c.args.piece.now c.loop-done.done), length-drop c.loop-done.done c.args.piece.now),
   λ bytes before under.
-    let here = c.loop-done.invariant.1 bytes before under in
-    subst (λ b. Underway c.args.settings.now c.report_waiting.new.reader b c.in_ok-status.status before (g.O.Output.written c.report_waiting.new.out))
-    (parts-more bytes c.args.piece.now c.loop-done.done c.in_ok-done.field-0)
-    (underway-more c.args.settings.now c.loop-done.reader c.feed.new.self c.report_waiting.new.reader _ _ _ _ _ _ _ _ here
-    (c.in_ok-done.ensures.feeds here.none_waits _ here.stands) c.in_ok-done.ensures.works c.in_ok-done.ensures.finished c.in_ok-done.ensures.mode
-    c.in_ok-status.ensures.reader c.in_ok-status.ensures.done),
+      let here = c.loop-done.invariant.1 bytes before under in
+      subst (λ b. Underway c.args.settings.now c.report_waiting.new.reader b c.in_ok-status.status before (g.O.Output.written c.report_waiting.new.out))
+      (parts-more bytes c.args.piece.now c.loop-done.done c.in_ok-done.field-0)
+      (underway-more c.args.settings.now c.loop-done.reader c.feed.new.self c.report_waiting.new.reader _ _ _ _ _ _ _ _ here
+      (c.in_ok-done.ensures.feeds here.none_waits _ here.stands) c.in_ok-done.ensures.works c.in_ok-done.ensures.finished c.in_ok-done.ensures.mode
+      c.in_ok-status.ensures.reader c.in_ok-status.ensures.done),
   omega (arith, c.loop-done.invariant.2, c.in_ok-status.ensures.later),
 )
 
