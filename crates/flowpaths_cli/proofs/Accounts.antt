@@ -1,5 +1,5 @@
 -- From what a run took and wrote to what is said of it where the inputs and the output tell.
-use Rattle.std.proofs.Common.{◌≡◌, ◌≢◌, ◌≤◌, ◌<◌, ◌-◌, ◌^◌, ◌⊎◌, ◌&&◌, ℕ, List, [], ◌∷◌, ◌++◌, length, take, drop, true, false, Option, Some, None, Result, Ok, Err, is_err, OnErr, OnOk, refl, sym, ap, subst, ◌∙◌, arith, inl, inr, eq-eqb, length-append, length-drop}
+use Rattle.std.proofs.Common.{◌≡◌, ◌≤◌, ◌<◌, ◌-◌, ◌^◌, ◌&&◌, ℕ, List, [], ◌∷◌, ◌++◌, length, take, drop, true, false, Option, Some, None, Result, Ok, Err, is_err, OnErr, OnOk, refl, sym, ap, subst, ◌∙◌, arith, inl, inr, eq-eqb, length-append}
 use Rattle.std.specs.Prelude.{IfSome, IfNone, is_some}
 use Rattle.std.specs.Str.{bytes_eq}
 use Rattle.std.proofs.lemmas.Bool.{cond-true}
@@ -10,11 +10,11 @@ use Rattle.flow_io.specs.Outside.{Selected, Starts, Unselected, Adds, Took, skip
 use Rattle.flow_io.proofs.Adding.{Adds-nothing}
 use Rattle.flow_io.specs.declared.status.Status.{Status}
 use Rattle.flow_io.specs.declared.status.Status.TheVariants.{Clean, Partial, Refused, Words, Fault, Memory, Long}
-use Rattle.graph_text.specs.Blocks.{TextBlock, blocks, complete}
+use Rattle.graph_text.specs.Blocks.{blocks, complete}
 use Rattle.graph_text.proofs.Growing.{blocks-begin}
 use Rattle.flowpaths_cli.specs.declared.settings.Settings.{Settings}
-use Rattle.flowpaths_cli.specs.Run.{Seen, WhereSeen, WhereWritten, left_of, taken, bytes_without, shown, blocks_at, HasEnded, IsDone, IsOutput, IsOutputWith, IsFirstOutput, BeginsOutput, Reads, Writes}
-use Rattle.flowpaths_cli.specs.Reporting.{IsAtEnd, Wrote, WroteAll, WroteFirst, WroteBeginning, EndsRight}
+use Rattle.flowpaths_cli.specs.Run.{Seen, WhereSeen, WhereWritten, left_of, taken, bytes_without, shown, blocks_at, IsOutput, IsOutputWith, IsFirstOutput, BeginsOutput, Reads, Writes}
+use Rattle.flowpaths_cli.specs.Reporting.{IsAtEnd, WroteFirst, WroteBeginning, EndsRight}
 use Rattle.flowpaths_cli.proofs.Underways.{WroteFirst-longer, WroteBeginning-longer}
 
 bytes_eq_same : (bytes : List ℕ) → bytes_eq bytes bytes ≡ true

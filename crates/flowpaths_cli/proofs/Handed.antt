@@ -1,11 +1,11 @@
 -- What holds of a block that is handed out for a block of a text.
-use Rattle.std.proofs.Common.{◌≡◌, ◌≤◌, ◌<◌, ◌^◌, ◌&&◌, ℕ, List, [], Option, Some, None, Result, Ok, Err, IsTrue, true, refl, sym, ap, subst, ltb}
-use Rattle.std.specs.Prelude.{IfOk, IfErr, nat_le, nat_lt}
+use Rattle.std.proofs.Common.{◌≡◌, ◌≤◌, ◌<◌, ◌^◌, ◌&&◌, [], Option, Some, None, Result, Ok, Err, IsTrue, refl, sym, subst}
+use Rattle.std.specs.Prelude.{IfOk, IfErr, nat_le}
 use Rattle.std.proofs.lemmas.Bool.{and_from, le-leb, lt-ltb}
 use Rattle.decomposition.specs.declared.Mode.{Mode}
 use Rattle.decomposition.specs.declared.Mode.TheVariants.{Exact}
 use Rattle.decomposition.specs.Instance.{IsInstance}
-use Rattle.graph_text.specs.Blocks.{TextBlock, IsTextBlock}
+use Rattle.graph_text.specs.Blocks.{TextBlock}
 use Rattle.graph_text.specs.Labels.{LabelLists}
 use Rattle.graph_text.specs.Reader.{handed}
 use Rattle.graph_text.specs.Reading.{read, instance_of, numbered_lines, raw_graph_of, refusal_of, err_or}
@@ -16,7 +16,6 @@ use Rattle.graph_text.proofs.Accepting.{graphs_are_accepted}
 use Rattle.graph_text.proofs.RefusedLines.{refusal-line}
 use Rattle.path_report.specs.ReportText.{is_regular, is_regular_body, is_name, fits}
 use Rattle.path_report.specs.declared.report.Body.{Body}
-use Rattle.path_report.specs.declared.report.Report.{Report}
 use Rattle.path_report.proofs.BlockNames.{is_name-name_of}
 use Rattle.flowpaths_cli.specs.Right.{HasLabels}
 use Rattle.flowpaths_cli.specs.Reporting.{IsHandedFor}

@@ -1,5 +1,5 @@
 -- What a run took of its input, and what it then wrote.
-use Rattle.std.proofs.Common.{◌≡◌, ◌≤◌, ◌<◌, ◌^◌, ◌⊎◌, ℕ, List, [], ◌∷◌, ◌++◌, length, take, Option, Some, None, Result, Ok, Err, refl, sym, ap, subst, ◌∙◌, arith, inl, inr, drop, append-nil}
+use Rattle.std.proofs.Common.{◌≡◌, ◌≤◌, ◌<◌, ◌^◌, ℕ, List, [], length, take, Option, Some, None, Result, Ok, Err, refl, sym, ap, subst, ◌∙◌, arith, inl, inr, drop, append-nil}
 use Rattle.std.proofs.Math.Seq.{drop-nil}
 use Rattle.std.proofs.lemmas.Bool.{cond_both}
 use Rattle.std.specs.List.{list_any}
@@ -18,7 +18,7 @@ use Rattle.flowpaths_cli.specs.declared.stop.Stop.TheVariants.{Memory as OutOfMe
 use Rattle.flow_io.proofs.Adding.{Adds-nothing}
 use Rattle.flow_io.proofs.Reading.{Took-nothing}
 use Rattle.flowpaths_cli.specs.Right.{is_refused, is_open, status_of}
-use Rattle.flowpaths_cli.specs.Run.{IsDone, IsOutput}
+use Rattle.flowpaths_cli.specs.Run.{IsOutput}
 use Rattle.flowpaths_cli.specs.Reporting.{IsAtEnd, Wrote, WroteAll, WroteFirst, WroteBeginning, Underway, EndsRight, status_at}
 use Rattle.flowpaths_cli.proofs.Reports.{Wrote-nothing}
 use Rattle.flowpaths_cli.proofs.Underways.{underway-first}

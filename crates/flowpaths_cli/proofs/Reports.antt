@@ -1,9 +1,7 @@
 -- Outputs that grow by one report after another.
-use Rattle.std.proofs.Common.{◌≡◌, ◌≤◌, ℕ, List, [], ◌∷◌, ◌++◌, length, take, drop, Option, Some, None, Result, Ok, Err, IsTrue, refl, sym, ◌∙◌, ap, subst, append_assoc, append-nil}
+use Rattle.std.proofs.Common.{◌≡◌, ℕ, List, [], ◌∷◌, ◌++◌, length, take, drop, Option, IsTrue, refl, sym, ◌∙◌, ap, subst, append_assoc, append-nil}
 use Rattle.std.proofs.lemmas.List.{take-append-drop}
 use Rattle.std.proofs.Math.Seq.{take-append_seam}
-use Rattle.std.specs.Prelude.{IfOk, IfErr}
-use Rattle.decomposition.specs.declared.Mode.{Mode}
 use Rattle.flow_io.specs.Outside.{Adds, AddsPrefix}
 use Rattle.flow_io.specs.declared.status.Status.{Status}
 use Rattle.flow_io.proofs.Adding.{Adds-nothing, Adds-then}
@@ -16,7 +14,7 @@ use Rattle.path_report.specs.declared.report.Body.{Body}
 use Rattle.path_report.specs.declared.report.Report.{Report}
 use Rattle.flowpaths_cli.specs.declared.settings.Settings.{Settings}
 use Rattle.flowpaths_cli.specs.Right.{BodyRight, labels_of, IsTextOf, IsReportOf, status_of}
-use Rattle.flowpaths_cli.specs.Run.{AreReports, IsOutput, IsOutputWith, IsFirstOutput, BeginsOutput}
+use Rattle.flowpaths_cli.specs.Run.{AreReports, IsOutput, IsFirstOutput}
 use Rattle.flowpaths_cli.specs.Reporting.{Wrote, WroteFirst, WroteBeginning}
 
 -- the report that is made of a block and of what is said of it

@@ -1,6 +1,6 @@
 -- A run between two pieces of its input, and how it goes on.
-use Rattle.std.proofs.Common.{◌≡◌, ◌≤◌, ◌<◌, ◌+◌, ◌-◌, ◌^◌, ◌⊎◌, ℕ, List, [], ◌∷◌, ◌++◌, length, take, drop, Option, Some, None, Result, Ok, Err, Bool, false, zero, suc, refl, sym, ap, subst, ◌∙◌, arith, append_assoc, append-nil, length-append, inl, inr}
-use Rattle.std.specs.Prelude.{IfOk, IfSome, count_by}
+use Rattle.std.proofs.Common.{◌≡◌, ◌≤◌, ◌<◌, ◌+◌, ◌-◌, ◌⊎◌, ℕ, List, [], ◌∷◌, ◌++◌, length, take, drop, Option, Some, None, Result, Ok, Err, false, zero, suc, refl, sym, ap, subst, ◌∙◌, arith, append_assoc, append-nil, length-append, inl, inr}
+use Rattle.std.specs.Prelude.{IfOk, IfSome}
 use Rattle.std.proofs.lemmas.List.{take-append-le, take_all, take-append-drop, take_rest}
 use Rattle.std.proofs.Math.Seq.{take-append_seam, take-add}
 use Rattle.std.proofs.lemmas.Bool.{cases_lt}
@@ -8,7 +8,7 @@ use Rattle.std.proofs.lemmas.List.Sums.{count_by-le-length}
 use Rattle.decomposition.specs.declared.Mode.{Mode}
 use Rattle.flow_io.specs.declared.status.Status.{Status}
 use Rattle.graph_text.specs.Blocks.{TextBlock, IsTextBlock, blocks, complete}
-use Rattle.graph_text.specs.Progress.{left_by, is_feed}
+use Rattle.graph_text.specs.Progress.{is_feed}
 use Rattle.graph_text.specs.Reader.{StandsFor, Feeds, Ends, Completes, Continues, IsTaken, mode_of, line_of, waiting_of, has_failed, has_finished}
 use Rattle.graph_text.specs.declared.block.Block.{Block}
 use Rattle.graph_text.specs.declared.reader.BlockReader.{BlockReader}
@@ -16,7 +16,7 @@ use Rattle.graph_text.proofs.Growing.{complete-grows, blocks-begin}
 use Rattle.graph_text.proofs.TextBlocks.{complete-block, blocks-block}
 use Rattle.flowpaths_cli.specs.declared.settings.Settings.{Settings}
 use Rattle.flowpaths_cli.specs.declared.stop.Stop.{Stop}
-use Rattle.flowpaths_cli.specs.Run.{IsOutput, IsFirstOutput, BeginsOutput}
+use Rattle.flowpaths_cli.specs.Run.{IsOutput, IsFirstOutput}
 use Rattle.flowpaths_cli.specs.Reporting.{Wrote, WroteFirst, WroteBeginning, Underway, IsUnderway, IsHandedFor, AreHandedFor}
 use Rattle.flowpaths_cli.proofs.Reports.{Wrote-first}
 

@@ -1,5 +1,5 @@
 -- How far a run has come: what it took of its input, and what it wrote.
-use Rattle.std.specs.Prelude.{◌≡◌, ◌⊎◌, ◌^◌, ℕ, ◌≤◌, ◌<◌, List, [], ◌∷◌, ◌++◌, length, false, Option, Some, None, Result, Ok, Err}
+use Rattle.std.specs.Prelude.{◌≡◌, ◌⊎◌, ◌^◌, ℕ, ◌≤◌, ◌<◌, List, [], ◌∷◌, length, false, Option, Some, None, Result, Ok, Err}
 use Rattle.flow_io.specs.Outside.{Selected, Adds, Took}
 use Rattle.flow_io.specs.declared.status.Status.{Status}
 use Rattle.flow_io.specs.declared.status.Status.TheVariants.{Words, Fault, Memory, Long}

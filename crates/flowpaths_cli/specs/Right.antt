@@ -1,5 +1,5 @@
 -- When a report is right for a block, and the status of a run.
-use Rattle.std.specs.Prelude.{◌≡◌, ℕ, ◌≤◌, List, length, Bool, true, false, ◌||◌, if◌then◌else◌, Option, Some, Result, Ok, Err, IsTrue}
+use Rattle.std.specs.Prelude.{◌≡◌, ℕ, List, length, Bool, true, false, if◌then◌else◌, Some, Result, Ok, Err, IsTrue}
 use Rattle.std.specs.List.{list_any}
 use Rattle.decomposition.specs.declared.Mode.{Mode}
 use Rattle.decomposition.specs.Instance.{Instance, Meets, objective}

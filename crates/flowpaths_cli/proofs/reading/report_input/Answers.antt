@@ -1,12 +1,11 @@
-use Rattle.std.proofs.Common.{◌≡◌, ◌≤◌, ◌<◌, ◌+◌, ◌++◌, ◌^◌, ℕ, [], List, Option, Err, length, take, refl, sym, ap, subst, ◌∙◌, arith, inr, append-nil, length-append, length-take}
-use Rattle.std.specs.Prelude.{IfOk}
+use Rattle.std.proofs.Common.{◌≡◌, ◌<◌, ◌+◌, ◌++◌, [], Err, length, take, refl, sym, ap, subst, ◌∙◌, arith, inr, append-nil, length-append, length-take}
 use Rattle.std.proofs.lemmas.List.{length-take-le}
 use Rattle.flow_io.specs.Outside.{Took, Rose}
 use Rattle.flow_io.proofs.Reading.{Took-nothing, Took-more}
 use Rattle.flow_io.proofs.Causes.{Rose-before}
 use Rattle.graph_text.specs.Blocks.{blocks}
-use Rattle.flowpaths_cli.specs.declared.stop.Stop.TheVariants.{Memory as OutOfMemory, Fault as Failed}
-use Rattle.flowpaths_cli.specs.Reporting.{EndsRight, Underway, Wrote}
+use Rattle.flowpaths_cli.specs.declared.stop.Stop.TheVariants.{Fault as Failed}
+use Rattle.flowpaths_cli.specs.Reporting.{EndsRight, Wrote}
 use Rattle.flowpaths_cli.proofs.Inputs.{right-nothing, right-fault, right-long, right-end, right-stop, underway-nothing, at-end, ok_then, ended-fault, stopped-fault}
 use Rattle.flowpaths_cli.proofs.reading.report_input.Goals as goal
 

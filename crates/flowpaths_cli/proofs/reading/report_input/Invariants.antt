@@ -1,4 +1,4 @@
-use Rattle.std.proofs.Common.{◌≡◌, ◌-◌, ◌≤◌, ◌++◌, ℕ, List, length}
+use Rattle.std.proofs.Common.{◌≡◌, ◌-◌, ◌≤◌, ℕ, List, length}
 use Rattle.flow_io.specs.Outside.{Took}
 use Rattle.flowpaths_cli.specs.Reporting.{Underway}
 use Rattle.flowpaths_cli.proofs.reading.report_input.Given as goal
