@@ -1,0 +1,41 @@
+//! Runs of the top call on one input in memory.
+
+use flow_io::{MemInputs, MemOutput, Status};
+use flowpaths_cli::flowpaths;
+use std::alloc::{AllocError, Global};
+
+/// What a run answered and wrote.
+#[derive(Drop)]
+pub struct Ran {
+    pub status: Status,
+    pub out: MemOutput,
+    pub notes: MemOutput,
+}
+
+/// The room of an output that holds every report of a trial.
+const ROOM: usize = 4096;
+
+/// Runs the top call on these words and inputs.
+pub fn run(
+    alloc: Global,
+    words: &[&str],
+    inputs: &mut MemInputs,
+    out: MemOutput,
+) -> Result<Ran, AllocError> {
+    let mut out = out;
+    let mut notes = MemOutput::new(alloc, ROOM, ROOM)?;
+    let mut owned = Vec::new(alloc);
+    for word in words {
+        owned.push(String::from_str(alloc, word)?)?;
+    }
+    let status = flowpaths(alloc, &owned, inputs, &mut out, &mut notes);
+    Ok(Ran { status, out, notes })
+}
+
+/// Runs the top call on this standard input, which comes in pieces of so many bytes.
+pub fn run_on(alloc: Global, input: &str, chunk: usize) -> Result<Ran, AllocError> {
+    let mut inputs = MemInputs::new(alloc, chunk.max(1));
+    inputs.add("-", input.as_bytes())?;
+    let out = MemOutput::new(alloc, ROOM, ROOM)?;
+    run(alloc, &[], &mut inputs, out)
+}
