@@ -14,50 +14,54 @@ pub const THREE: &str = "# a\n2\ns t 1\n# b\n2\ns t\n# c\n2\ns t 3\n# bye\n";
 pub const THREE_REPORTS: &str =
     "graph 1 a\nmodel exact\nmark found\nlower 0\nupper 1\npath 1 s t\ncert none\nend\ngraph 2 b\nmodel exact\nrefused 6 BadFields\nend\ngraph 3 c\nmodel exact\nmark found\nlower 0\nupper 1\npath 3 s t\ncert none\nend\n";
 
+/// The report on a graph of one edge.
+const ONE: &str =
+    "graph 1 one\nmodel exact\nmark found\nlower 0\nupper 1\npath 5 s t\ncert none\nend\n";
+
+/// Inputs, their reports and their statuses.
+const REPORTS: [(&str, &str, Status); 11] = [
+    ("# one\n2\ns t 5\n", ONE, Status::Partial),
+    ("", "", Status::Clean),
+    ("# only a comment", "", Status::Clean),
+    ("\n \r\n# only\n# comments\n", "", Status::Clean),
+    (
+        "# n\r\n\r\n99\r\ns t 10.0",
+        "graph 1 n\nmodel exact\nmark found\nlower 0\nupper 1\npath 10 s t\ncert none\nend\n",
+        Status::Partial,
+    ),
+    (
+        "2\ns t 007\n",
+        "graph 1\nmodel exact\nmark found\nlower 0\nupper 1\npath 7 s t\ncert none\nend\n",
+        Status::Partial,
+    ),
+    (
+        "# b\n2\ns t 1000000000000\n",
+        "graph 1 b\nmodel exact\nmark found\nlower 0\nupper 1\npath 1000000000000 s t\ncert none\nend\n",
+        Status::Partial,
+    ),
+    (
+        "# e\n0\n",
+        "graph 1 e\nmodel exact\nmark found\nlower 0\nupper 0\ncert none\nend\n",
+        Status::Partial,
+    ),
+    (
+        "# diamonds\n7\ns a 5\na m 5\ns b 2\nb m 2\nm c 4\nc t 4\nm d 3\nd t 3\n",
+        "graph 1 diamonds\nmodel exact\nmark found\nlower 0\nupper 3\npath 4 s a m c t\npath 2 s b m d t\npath 1 s a m d t\ncert none\nend\n",
+        Status::Partial,
+    ),
+    (
+        "# two\n#S s t\n2\ns t 1\n",
+        "graph 1 two\nmodel exact\nrefused 2 Later\nend\n",
+        Status::Refused,
+    ),
+    (THREE, THREE_REPORTS, Status::Refused),
+];
+
 #[test]
 fn reports(rt: HostRuntime) -> Result<(), Fail> {
     let alloc = rt.alloc();
-    let one =
-        "graph 1 one\nmodel exact\nmark found\nlower 0\nupper 1\npath 5 s t\ncert none\nend\n";
-    let rows = [
-        ("# one\n2\ns t 5\n", one, Status::Partial),
-        ("", "", Status::Clean),
-        ("# only a comment", "", Status::Clean),
-        ("\n \r\n# only\n# comments\n", "", Status::Clean),
-        (
-            "# n\r\n\r\n99\r\ns t 10.0",
-            "graph 1 n\nmodel exact\nmark found\nlower 0\nupper 1\npath 10 s t\ncert none\nend\n",
-            Status::Partial,
-        ),
-        (
-            "2\ns t 007\n",
-            "graph 1\nmodel exact\nmark found\nlower 0\nupper 1\npath 7 s t\ncert none\nend\n",
-            Status::Partial,
-        ),
-        (
-            "# b\n2\ns t 1000000000000\n",
-            "graph 1 b\nmodel exact\nmark found\nlower 0\nupper 1\npath 1000000000000 s t\ncert none\nend\n",
-            Status::Partial,
-        ),
-        (
-            "# e\n0\n",
-            "graph 1 e\nmodel exact\nmark found\nlower 0\nupper 0\ncert none\nend\n",
-            Status::Partial,
-        ),
-        (
-            "# diamonds\n7\ns a 5\na m 5\ns b 2\nb m 2\nm c 4\nc t 4\nm d 3\nd t 3\n",
-            "graph 1 diamonds\nmodel exact\nmark found\nlower 0\nupper 3\npath 4 s a m c t\npath 2 s b m d t\npath 1 s a m d t\ncert none\nend\n",
-            Status::Partial,
-        ),
-        (
-            "# two\n#S s t\n2\ns t 1\n",
-            "graph 1 two\nmodel exact\nrefused 2 Later\nend\n",
-            Status::Refused,
-        ),
-        (THREE, THREE_REPORTS, Status::Refused),
-    ];
     for chunk in CHUNKS {
-        for (input, output, status) in rows {
+        for (input, output, status) in REPORTS {
             let ran = run_on(alloc, input, chunk)?;
             assert!(rt;
                 ran.out.bytes() == output.as_bytes(),
