@@ -5,3 +5,4 @@ pub mod Underways
 pub mod Inputs
 pub mod Decomposed
 pub mod Accounts
+pub mod Widths

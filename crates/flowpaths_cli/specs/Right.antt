@@ -1,8 +1,9 @@
 -- When a report is right for a block, and the status of a run.
-use Rattle.std.specs.Prelude.{◌≡◌, ℕ, List, length, Bool, true, false, if◌then◌else◌, Some, Result, Ok, Err, IsTrue}
+use Rattle.std.specs.Prelude.{◌≤◌, ◌≡◌, ◌==◌, ℕ, List, length, Bool, true, false, if◌then◌else◌, Some, Result, Ok, Err, IsTrue}
 use Rattle.std.specs.List.{list_any}
 use Rattle.decomposition.specs.declared.Mode.{Mode}
-use Rattle.decomposition.specs.Instance.{Instance, Meets, objective}
+use Rattle.decomposition.specs.Instance.{Instance, Meets, objective, IsOptimal, IsLowerBound}
+use Rattle.decomposition.specs.Width.{IsAntichain, IsWidth}
 use Rattle.flow_io.specs.declared.status.Status.{Status}
 use Rattle.flow_io.specs.declared.status.Status.TheVariants.{Clean, Partial, Refused as SomeRefused}
 use Rattle.graph_text.specs.Blocks.{TextBlock, name_of}
@@ -16,18 +17,32 @@ use Rattle.path_report.specs.declared.report.Body.{Body}
 use Rattle.path_report.specs.declared.report.Body.TheVariants.{Refused, Solved as SolvedBody}
 use Rattle.path_report.specs.declared.report.Mark.{Mark}
 use Rattle.path_report.specs.declared.report.Mark.TheVariants.{Optimal, Found}
-use Rattle.path_report.specs.declared.report.Cert.TheVariants.{Zero}
+use Rattle.path_report.specs.declared.report.Cert.{Cert}
+use Rattle.path_report.specs.declared.report.Cert.TheVariants.{Zero, Wide}
 use Rattle.path_report.specs.ReportText.{is_regular, text_of}
 use Rattle.flowpaths_cli.specs.declared.settings.Settings.{Settings}
 
--- A solved report is right for an instance: the paths are an answer that meets the model, `upper` is what is to be
--- least, and no lower bound but 0 is claimed.
+-- the certificate of a lower bound: none for 0, and otherwise as many edges with a lower bound of at least 1, of which no two lie on one path
+abbrev pub IsCertFor : Instance → ℕ → Cert → Type 0
+IsCertFor i lower Zero = lower ≡ 0
+IsCertFor i lower (Wide es) = (1 ≤ lower) × IsAntichain i es × (length es ≡ lower)
+
+-- the mark of bounds: optimal where they are equal
+abbrev pub mark_of : ℕ → ℕ → Mark
+mark_of lower upper = if lower == upper then Optimal else Found
+
+-- A solved report is right and true for an instance: the paths are an answer that meets the model, and `upper` is their
+-- value; `lower` is the width, and no answer is below it; the paths of an optimal one are best.
 pub record SolvedRight (mode : Mode) (i : Instance) (s : Solved) : Type 0 where
-  pub mark_is : s.mark ≡ Found
-  pub lower_is : s.lower ≡ Some 0
-  pub cert_is : s.cert ≡ Zero
   pub meets : Meets mode i s.paths
   pub upper_is : s.upper ≡ Some (objective mode i s.paths)
+  pub lower : ℕ
+  pub lower_is : s.lower ≡ Some lower
+  pub width : IsWidth i lower
+  pub cert : IsCertFor i lower s.cert
+  pub mark_is : s.mark ≡ mark_of lower (objective mode i s.paths)
+  pub bound : IsLowerBound mode i lower
+  pub optimal : s.mark ≡ Optimal → IsOptimal mode i s.paths
 
 -- the labels of a graph have its edges, and a name for each of its vertices
 pub record HasLabels (graph : RawGraph) : Type 0 where
