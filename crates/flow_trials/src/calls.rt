@@ -1,8 +1,10 @@
 //! Direct calls of the crates below.
 
-use dag_net::{BuildFault, Net};
+use dag_net::{BuildFault, IdLists, Ids, Net};
 use greedy_paths::{GreedyFault, decompose};
+use path_cover::width;
 use std::test::Fail;
+use subpath_rules::{RuleFault, Rules};
 
 #[test]
 fn nets(rt: HostRuntime) {
@@ -22,5 +24,42 @@ fn unbalanced(rt: HostRuntime) -> Result<(), Fail> {
     assert!(rt; net.edges() == 2);
     let refused = decompose(alloc, &net, &[3, 5]);
     assert!(rt; matches!(refused, Err(GreedyFault::Unbalanced { vertex: 1 })));
+    Ok(())
+}
+
+/// Two ways from a source to a vertex, and two from there to a sink.
+const DIAMONDS: [(u32, u32); 8] = [
+    (0, 1),
+    (1, 2),
+    (0, 3),
+    (3, 2),
+    (2, 4),
+    (4, 5),
+    (2, 6),
+    (6, 5),
+];
+
+#[test]
+fn widths(rt: HostRuntime) -> Result<(), Fail> {
+    let alloc = rt.alloc();
+    let net = Net::build(alloc, 7, &DIAMONDS)?;
+    assert!(rt; net.edges() == 8);
+    for (needed, size) in [([true; 8], 2), ([false; 8], 0)] {
+        let found = width(alloc, &net, &needed)?;
+        assert_eq!(rt; found.cover.len(), size);
+        assert_eq!(rt; found.antichain.len(), size);
+    }
+    Ok(())
+}
+
+#[test]
+fn rules(rt: HostRuntime) -> Result<(), Fail> {
+    let alloc = rt.alloc();
+    let net = Net::build(alloc, 7, &DIAMONDS)?;
+    let mut runs = IdLists::new(alloc);
+    runs.push(Ids::new(alloc))?;
+    assert!(rt; runs.len() < 2);
+    let refused = Rules::build(alloc, &net, &runs);
+    assert!(rt; matches!(refused, Err(RuleFault::NotARun { index: 0 })));
     Ok(())
 }

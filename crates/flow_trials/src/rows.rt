@@ -12,42 +12,57 @@ pub const THREE: &str = "# a\n2\ns t 1\n# b\n2\ns t\n# c\n2\ns t 3\n# bye\n";
 
 /// The reports on them.
 pub const THREE_REPORTS: &str =
-    "graph 1 a\nmodel exact\nmark found\nlower 0\nupper 1\npath 1 s t\ncert none\nend\ngraph 2 b\nmodel exact\nrefused 6 BadFields\nend\ngraph 3 c\nmodel exact\nmark found\nlower 0\nupper 1\npath 3 s t\ncert none\nend\n";
+    "graph 1 a\nmodel exact\nmark optimal\nlower 1\nupper 1\npath 1 s t\ncert wide 1\nedge s t\nend\ngraph 2 b\nmodel exact\nrefused 6 BadFields\nend\ngraph 3 c\nmodel exact\nmark optimal\nlower 1\nupper 1\npath 3 s t\ncert wide 1\nedge s t\nend\n";
 
 /// The report on a graph of one edge.
 const ONE: &str =
-    "graph 1 one\nmodel exact\nmark found\nlower 0\nupper 1\npath 5 s t\ncert none\nend\n";
+    "graph 1 one\nmodel exact\nmark optimal\nlower 1\nupper 1\npath 5 s t\ncert wide 1\nedge s t\nend\n";
 
 /// Inputs, their reports and their statuses.
-const REPORTS: [(&str, &str, Status); 11] = [
-    ("# one\n2\ns t 5\n", ONE, Status::Partial),
+const REPORTS: [(&str, &str, Status); 14] = [
+    ("# one\n2\ns t 5\n", ONE, Status::Clean),
     ("", "", Status::Clean),
     ("# only a comment", "", Status::Clean),
     ("\n \r\n# only\n# comments\n", "", Status::Clean),
     (
         "# n\r\n\r\n99\r\ns t 10.0",
-        "graph 1 n\nmodel exact\nmark found\nlower 0\nupper 1\npath 10 s t\ncert none\nend\n",
-        Status::Partial,
+        "graph 1 n\nmodel exact\nmark optimal\nlower 1\nupper 1\npath 10 s t\ncert wide 1\nedge s t\nend\n",
+        Status::Clean,
     ),
     (
         "2\ns t 007\n",
-        "graph 1\nmodel exact\nmark found\nlower 0\nupper 1\npath 7 s t\ncert none\nend\n",
-        Status::Partial,
+        "graph 1\nmodel exact\nmark optimal\nlower 1\nupper 1\npath 7 s t\ncert wide 1\nedge s t\nend\n",
+        Status::Clean,
     ),
     (
         "# b\n2\ns t 1000000000000\n",
-        "graph 1 b\nmodel exact\nmark found\nlower 0\nupper 1\npath 1000000000000 s t\ncert none\nend\n",
-        Status::Partial,
+        "graph 1 b\nmodel exact\nmark optimal\nlower 1\nupper 1\npath 1000000000000 s t\ncert wide 1\nedge s t\nend\n",
+        Status::Clean,
     ),
     (
         "# e\n0\n",
-        "graph 1 e\nmodel exact\nmark found\nlower 0\nupper 0\ncert none\nend\n",
-        Status::Partial,
+        "graph 1 e\nmodel exact\nmark optimal\nlower 0\nupper 0\ncert none\nend\n",
+        Status::Clean,
     ),
     (
         "# diamonds\n7\ns a 5\na m 5\ns b 2\nb m 2\nm c 4\nc t 4\nm d 3\nd t 3\n",
-        "graph 1 diamonds\nmodel exact\nmark found\nlower 0\nupper 3\npath 4 s a m c t\npath 2 s b m d t\npath 1 s a m d t\ncert none\nend\n",
+        "graph 1 diamonds\nmodel exact\nmark found\nlower 2\nupper 3\npath 4 s a m c t\npath 2 s b m d t\npath 1 s a m d t\ncert wide 2\nedge s a\nedge s b\nend\n",
         Status::Partial,
+    ),
+    (
+        "# two\n4\ns a 3\ns b 2\na t 3\nb t 2\n",
+        "graph 1 two\nmodel exact\nmark optimal\nlower 2\nupper 2\npath 3 s a t\npath 2 s b t\ncert wide 2\nedge s a\nedge s b\nend\n",
+        Status::Clean,
+    ),
+    (
+        "# z\n2\ns t 0\n",
+        "graph 1 z\nmodel exact\nmark optimal\nlower 0\nupper 0\ncert none\nend\n",
+        Status::Clean,
+    ),
+    (
+        "# wagons\n7\nmine yard 55\nyard j1 40\nj1 port 40\nyard j2 24\nj2 mill 15\nquarry yard 9\nj2 port 9\nquarry j1 6\nj1 mill 6\n",
+        "graph 1 wagons\nmodel exact\nmark optimal\nlower 4\nupper 4\npath 40 mine yard j1 port\npath 15 mine yard j2 mill\npath 9 quarry yard j2 port\npath 6 quarry j1 mill\ncert wide 4\nedge yard j1\nedge j2 mill\nedge j2 port\nedge quarry j1\nend\n",
+        Status::Clean,
     ),
     (
         "# two\n#S s t\n2\ns t 1\n",
@@ -144,7 +159,7 @@ fn words(rt: HostRuntime) -> Result<(), Fail> {
         inputs.add("one.graph", b"# one\n2\ns t 5\n")?;
         inputs.add("-x", b"# one\n2\ns t 5\n")?;
         let ran = run(alloc, words, &mut inputs, MemOutput::new(alloc, 16, 4096)?)?;
-        assert_eq!(rt; ran.status, Status::Partial);
+        assert_eq!(rt; ran.status, Status::Clean);
         assert!(rt; ran.out.bytes().starts_with(b"graph 1 one\n"));
     }
     for words in refused {
