@@ -5,7 +5,8 @@
 Each graph begins with a `#` line, has no constraint line, and is balanced, as generate.py writes them. Of each report it is
 checked that number and name are the graph's, that each path leads from a source to a sink over edges of the graph, that the
 weights of the paths through an edge sum to its weight, that there is at most one path for each edge of positive weight, that
-`upper` is their number, and that they stand by falling weight, those of equal weight by rising edge list.
+`upper` is their number, and that they stand by falling weight, those of equal weight by rising edge list; that of the edges of the
+certificate no two lie on one path, that `lower` is their number, and that the mark is `optimal` exactly where both are equal.
 """
 import sys
 
@@ -55,13 +56,40 @@ def first_fault(number, name, edges, report):
         return "it is too short"
     if report[0] != b" ".join([b"graph", b"%d" % number] + [name] * bool(name)):
         return "the number or the name is another"
-    if report[1:4] != [b"model exact", b"mark found", b"lower 0"]:
-        return "the model, the mark or the lower bound is another"
-    if report[-2:] != [b"cert none", b"end"]:
-        return "the end is another"
-    if report[4] != b"upper %d" % len(report[5:-2]):
+    if report[1] != b"model exact" or report[-1] != b"end":
+        return "the model or the end is another"
+    paths = [line for line in report if line.startswith(b"path ")]
+    shown = report[5 + len(paths) : -1]
+    if report[4] != b"upper %d" % len(paths):
         return "upper is not the number of paths"
-    return first_path_fault(edges, report[5:-2])
+    if shown[0] not in (b"cert none", b"cert wide %d" % (len(shown) - 1)):
+        return "the certificate is another"
+    lower = len(shown) - 1
+    if report[3] != b"lower %d" % lower or lower > len(paths):
+        return "lower is not the number of edges listed, or above upper"
+    if report[2] != (b"mark optimal" if lower == len(paths) else b"mark found"):
+        return "the mark is another"
+    return first_path_fault(edges, report[5 : 5 + len(paths)]) or first_antichain_fault(edges, shown[1:])
+
+
+def first_antichain_fault(edges, lines):
+    """What is wrong with the edges of a certificate: each has a weight of at least 1, and no two lie on one path."""
+    listed = [tuple(line.split(b" ")[1:]) for line in lines]
+    if any(edges.get(edge, 0) < 1 for edge in listed):
+        return "an edge of the certificate is no edge of positive weight"
+    after = {}
+    for tail, head in edges:
+        after.setdefault(tail, []).append(head)
+    for first in listed:
+        reached, left = {first[1]}, [first[1]]
+        while left:
+            for head in after.get(left.pop(), []):
+                if head not in reached:
+                    reached.add(head)
+                    left.append(head)
+        if any(second[0] in reached for second in listed if second != first) or listed.count(first) > 1:
+            return "two edges of the certificate lie on one path"
+    return None
 
 
 def first_path_fault(edges, lines):
@@ -92,16 +120,17 @@ def first_path_fault(edges, lines):
 
 def main(graphs, reports):
     left = reports_of(reports)
-    number = paths = 0
+    number = paths = optimal = 0
     for number, (name, edges) in enumerate(graphs_of(graphs), 1):
         report = next(left, [])
         fault = first_fault(number, name, edges, report)
         if fault:
             sys.exit(f"check_sums.py: report {number}: {fault}")
-        paths += len(report) - 7
+        paths += sum(line.startswith(b"path ") for line in report)
+        optimal += report[2] == b"mark optimal"
     if next(left, None) is not None:
         sys.exit("check_sums.py: there are more reports than graphs")
-    print(f"{number} graphs, {paths} paths: every sum is right")
+    print(f"{number} graphs, {optimal} optimal, {paths} paths: every sum and every certificate is right")
 
 
 if __name__ == "__main__":

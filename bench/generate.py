@@ -1,6 +1,7 @@
 """Writes inputs for the measurements to standard output. The same words give the same bytes.
 
     generate.py small COUNT [SEED]    COUNT graphs of about ten edges
+    generate.py large COUNT [SEED]    COUNT graphs of 200 edges or a few more
     generate.py comments BYTES        comment and blank lines, BYTES bytes in all
     generate.py long [LINES]          one graph: LINES comment lines, blank lines, and names of 60,000 bytes
 """
@@ -24,6 +25,24 @@ def small_graph(draw, number):
     lines = [f"# graph {number}", str(vertices)]
     lines += [f"{tail} {head} {weight}" for (tail, head), weight in weights.items()]
     return "\n".join(lines) + "\n"
+
+
+def large_graph(draw, number):
+    """Weighted paths over twelve layers of twelve vertices, until there are 200 edges or a few more, so that it is balanced."""
+    weights = {}
+    while len(weights) < 200:
+        names = [f"v{layer}_{draw.randrange(12)}" for layer in range(12)]
+        weight = draw.randint(1, 1000)
+        for edge in zip(names, names[1:]):
+            weights[edge] = weights.get(edge, 0) + weight
+    lines = [f"# graph {number}", "144"] + [f"{tail} {head} {weight}" for (tail, head), weight in weights.items()]
+    return "\n".join(lines) + "\n"
+
+
+def write_large(out, count, seed):
+    draw = random.Random(seed)
+    for number in range(1, count + 1):
+        out.write(large_graph(draw, number).encode())
 
 
 def write_small(out, count, seed):
@@ -60,6 +79,8 @@ def main(words):
     kind, numbers = words[0], [int(word) for word in words[1:]]
     if kind == "small":
         write_small(out, numbers[0], numbers[1] if len(numbers) > 1 else 1)
+    elif kind == "large":
+        write_large(out, numbers[0], numbers[1] if len(numbers) > 1 else 1)
     elif kind == "comments":
         write_comments(out, numbers[0])
     elif kind == "long":
@@ -69,6 +90,6 @@ def main(words):
 
 
 if __name__ == "__main__":
-    if len(sys.argv) < 2 or sys.argv[1] not in ("small", "comments", "long"):
+    if len(sys.argv) < 2 or sys.argv[1] not in ("small", "large", "comments", "long"):
         sys.exit(__doc__)
     main(sys.argv[1:])

@@ -1,8 +1,9 @@
 """Runs a command and says how long it took and how much memory it held at most.
 
-    measure.py STATUS INPUT OUTPUT COMMAND WORD..
+    measure.py STATUSES INPUT OUTPUT COMMAND WORD..
 
-The command reads the file INPUT and writes the file OUTPUT. It must end with STATUS. One line is printed: wall seconds and
+The command reads the file INPUT and writes the file OUTPUT. It must end with one of STATUSES, which
+stand with commas between them. One line is printed: wall seconds and
 peak memory in kilobytes. The peak is what the system notes of the program itself (VmHWM), looked at every two milliseconds, so
 that of a run of a few milliseconds may be too low.
 """
@@ -39,7 +40,7 @@ def main(wanted, source, target, command):
         status = process.wait()
         seconds = time.monotonic() - begin
         watcher.join()
-    if status != wanted:
+    if str(status) not in wanted.split(","):
         sys.exit(f"measure.py: {command[0]} ended with {status} and not with {wanted}")
     print(f"{seconds:.3f} {max(peaks)}")
 
@@ -47,4 +48,4 @@ def main(wanted, source, target, command):
 if __name__ == "__main__":
     if len(sys.argv) < 5:
         sys.exit(__doc__)
-    main(int(sys.argv[1]), sys.argv[2], sys.argv[3], sys.argv[4:])
+    main(sys.argv[1], sys.argv[2], sys.argv[3], sys.argv[4:])

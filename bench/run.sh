@@ -60,7 +60,7 @@ for count in 10000 100000 1000000; do
     graphs=$((count / divisor))
     [ "$graphs" -gt 0 ] || graphs=1
     python3 "$here/generate.py" small "$graphs" >"$folder/input"
-    row "$graphs graphs" "$folder/input" "$graphs" 1
+    row "$graphs graphs" "$folder/input" "$graphs" 0,1
     whole "$graphs"
     if [ "$count" = 10000 ]; then
         python3 "$here/check_sums.py" "$folder/input" "$folder/report"
@@ -69,6 +69,14 @@ done
 
 echo "(c) one graph with names of 60,000 bytes, and comment and blank lines"
 python3 "$here/generate.py" long $((1000000 / divisor)) >"$folder/input"
-row "long names" "$folder/input" 1 1
+row "long names" "$folder/input" 1 0,1
 whole 1
+python3 "$here/check_sums.py" "$folder/input" "$folder/report"
+
+echo "(d) graphs of 200 edges"
+graphs=$((1000 / divisor))
+[ "$graphs" -gt 0 ] || graphs=1
+python3 "$here/generate.py" large "$graphs" >"$folder/input"
+row "$graphs large graphs" "$folder/input" "$graphs" 0,1
+whole "$graphs"
 python3 "$here/check_sums.py" "$folder/input" "$folder/report"
