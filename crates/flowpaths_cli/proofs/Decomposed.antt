@@ -117,11 +117,11 @@ equal-from_mark : (lower upper : ℕ) → mark_of lower upper ≡ Optimal → lo
 equal-from_mark lower upper is = equal_at lower upper (lower == upper) refl is
 
 -- it is right for the instance
-pub found_right : (mode : Mode) (graph : RawGraph) (a : List (List ℕ × ℕ)) (es : List ℕ) (lower upper : ℕ) (cert : Cert) → upper ≡ length a → lower ≡ length es → mode ≡ Exact
+pub found_right : (mode : Mode) (graph : RawGraph) (a : List (List ℕ × ℕ)) (es : List ℕ) (lower upper : ℕ) (cert : Cert) → upper ≡ length a → lower ≡ length es → length a ≤ edge_count graph.net → mode ≡ Exact
     → IsInstance mode (instance_of graph) → graph.runs ≡ [] → Decomposes graph.net (slice_index (lows graph.ranges)) a
     → IsWidth (instance_of graph) (length es) → IsAntichain (instance_of graph) es → IsCertFor (instance_of graph) (length es) cert
     → SolvedRight mode (instance_of graph) (found a lower upper (mark_of lower upper) cert)
-found_right mode graph a es lower upper cert counted many exact valid none made wide chain shows =
+found_right mode graph a es lower upper cert counted many short exact valid none made wide chain shows =
     let i = instance_of graph in
     let is_exact = subst (λ m. IsInstance m i) exact valid in
     let fine : Meets Exact i a = (made.answer, subst (λ rules. Covers rules a) (sym none) refl, error-from_decomposes i is_exact a (lows_made i a made)) in
@@ -129,6 +129,7 @@ found_right mode graph a es lower upper cert counted many exact valid none made 
     let right : SolvedRight Exact i (found a lower upper (mark_of lower upper) cert) = record {
       meets = fine;
       upper_is = ap Some counted;
+      few = omega (arith, short);
       lower = lower;
       lower_is = refl;
       width = subst (IsWidth i) (sym many) wide;

@@ -6,3 +6,4 @@ pub mod Inputs
 pub mod Decomposed
 pub mod Accounts
 pub mod Widths
+pub mod Merged

@@ -1,7 +1,9 @@
 -- When a report is right for a block, and the status of a run.
-use Rattle.std.specs.Prelude.{◌≤◌, ◌≡◌, ◌==◌, ℕ, List, length, Bool, true, false, if◌then◌else◌, Some, Result, Ok, Err, IsTrue}
+use Rattle.std.specs.Prelude.{◌≤◌, ◌≡◌, ◌==◌, ◌+◌, ℕ, List, length, Bool, true, false, if◌then◌else◌, Some, Result, Ok, Err, IsTrue}
 use Rattle.std.specs.List.{list_any}
 use Rattle.decomposition.specs.declared.Mode.{Mode}
+use Rattle.decomposition.specs.declared.Mode.TheVariants.{Exact, Interval, Abs}
+use Rattle.decomposition.specs.Graph.{edge_count}
 use Rattle.decomposition.specs.Instance.{Instance, Meets, objective, IsOptimal, IsLowerBound}
 use Rattle.decomposition.specs.Width.{IsAntichain, IsWidth}
 use Rattle.flow_io.specs.declared.status.Status.{Status}
@@ -31,11 +33,18 @@ IsCertFor i lower (Wide es) = (1 ≤ lower) × IsAntichain i es × (length es �
 abbrev pub mark_of : ℕ → ℕ → Mark
 mark_of lower upper = if lower == upper then Optimal else Found
 
+-- there are at most as many paths as edges and runs that must be covered, where the number of paths is to be least
+abbrev pub AreFew : Mode → Instance → List (List ℕ × ℕ) → Type 0
+AreFew Exact i paths = length paths ≤ edge_count i.graph + length i.rules
+AreFew Interval i paths = length paths ≤ edge_count i.graph + length i.rules
+AreFew (Abs k) i paths = Unit {0}
+
 -- A solved report is right and true for an instance: the paths are an answer that meets the model, and `upper` is their
 -- value; `lower` is the width, and no answer is below it; the paths of an optimal one are best.
 pub record SolvedRight (mode : Mode) (i : Instance) (s : Solved) : Type 0 where
   pub meets : Meets mode i s.paths
   pub upper_is : s.upper ≡ Some (objective mode i s.paths)
+  pub few : AreFew mode i s.paths
   pub lower : ℕ
   pub lower_is : s.lower ≡ Some lower
   pub width : IsWidth i lower

@@ -113,6 +113,7 @@ fn first_answer(alloc: Global, net: &Net, flow: &[u64]) -> Result<Answer, AllocE
     requires balanced { IsBalanced net.now (slice_index flow.now) }
     ensures sums { IfOk result (Decomposes net.now (slice_index flow.now)) }
     ensures order { IfOk result IsInReportOrder }
+    ensures few { IfOk result (λ answer. length answer ≤ edge_count net.now) }
 {
     prove!(net.edges() <= 4096);
     match decompose(alloc, net, flow) {

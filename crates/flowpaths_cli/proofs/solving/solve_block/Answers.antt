@@ -37,7 +37,7 @@ returns-clause-right c =
     let paths = c.in_ok-paths.paths in
     let es = c.in_ok-antichain.antichain in
     let made = subst (λ (ws : List ℕ). Decomposes graph.net (slice_index ws) paths) (c.deref.ensures.value ∙ c.in_ok-flow.ensures) c.in_ok-paths.ensures.sums in
-    let right = found_right c.args.settings.now.mode graph paths es c.len-lower.result c.len-upper.result c.cert_of.result c.len-upper.ensures.len c.len-lower.ensures
+    let right = found_right c.args.settings.now.mode graph paths es c.len-lower.result c.len-upper.result c.cert_of.result c.len-upper.ensures.len c.len-lower.ensures c.in_ok-paths.ensures.few
     c.requires.exact c.requires.valid c.requires.no_runs made
     c.in_ok-antichain.ensures.width c.in_ok-antichain.ensures.antichain (c.cert_of.ensures.shows (instance_of graph) c.in_ok-antichain.ensures.antichain) in
     subst (λ m. SolvedRight c.args.settings.now.mode (instance_of graph) (found paths c.len-lower.result c.len-upper.result m c.cert_of.result)) (sym c.mark_of.ensures) right
