@@ -43,7 +43,7 @@ pub Covers-same_paths : (rules : List (List ℕ)) (old new : List (List ℕ × �
 Covers-same_paths rules old new same covers = Covers-by rules old new (λ test h. same test ∙ h) covers
 
 -- the entries with other paths
-abbrev without : List ℕ → List (List ℕ × ℕ) → List (List ℕ × ℕ)
+abbrev pub without : List ℕ → List (List ℕ × ℕ) → List (List ℕ × ℕ)
 without p [] = []
 without p (x ∷ xs) = cond (pointwise (λ d e. d == e) x.0 p) (without p xs) (x ∷ without p xs)
 
@@ -66,7 +66,7 @@ weight_on-without p e (x ∷ xs) =
           ])
     ]
 
-weight_of-without : (p q : List ℕ) (xs : List (List ℕ × ℕ)) → weight_of (without p xs) q ≡ cond (pointwise (λ d e. d == e) p q) 0 (weight_of xs q)
+pub weight_of-without : (p q : List ℕ) (xs : List (List ℕ × ℕ)) → weight_of (without p xs) q ≡ cond (pointwise (λ d e. d == e) p q) 0 (weight_of xs q)
 weight_of-without p q [] = elim (cases_Bool (pointwise (λ d e. d == e) p q)) [ inl h ↦ rw h refl | inr h ↦ rw h refl ]
 weight_of-without p q (x ∷ xs) =
     let rest = weight_of-without p q xs in
@@ -98,7 +98,7 @@ nothing e (x ∷ xs) none =
     elim (cases_Bool (has_edge x.0 e)) [ inl h ↦ rw h (omega arith) | inr h ↦ rw h (omega arith) ]
 
 -- a path that stands in no entry has no weight
-no_weight : (p : List ℕ) (xs : List (List ℕ × ℕ)) (x : List ℕ × ℕ) → x.0 ≡ p → AllByRecursion (λ y. same_path x y ≡ false) xs → weight_of xs p ≡ 0
+pub no_weight : (p : List ℕ) (xs : List (List ℕ × ℕ)) (x : List ℕ × ℕ) → x.0 ≡ p → AllByRecursion (λ y. same_path x y ≡ false) xs → weight_of xs p ≡ 0
 no_weight p [] x is h = refl
 no_weight p (y ∷ ys) x is h =
     let apart : pointwise (λ d e. d == e) y.0 p ≡ false = nat_list_eq_equiv.symm y.0 p ∙ subst (λ r. pointwise (λ d e. d == e) r y.0 ≡ false) is h.0 in

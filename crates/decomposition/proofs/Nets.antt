@@ -4,7 +4,7 @@ use Rattle.std.specs.Prelude.{All, AllPairs, Contains, IsTrue}
 use Rattle.std.specs.List.{list_all, IsDistinct}
 use Rattle.std.proofs.lemmas.Bool.{and_parts, and_from}
 use Rattle.std.proofs.lemmas.List.{get_or_default}
-use Rattle.std.proofs.lemmas.Map.Made.{IsDistinct-from_AllPairs, AllPairs-from_IsDistinct}
+use Rattle.std.proofs.lemmas.Map.Made.{IsDistinct-from_AllPairs}
 use Rattle.decomposition.specs.Graph.{Graph, IsNet, edge_count, tail, head, is_inner, same_ends}
 use Rattle.decomposition.specs.Flow.{IsBalanced, IsBalancedAt}
 use Rattle.decomposition.proofs.Root.{all-place}
@@ -44,9 +44,6 @@ same_ends-Decides a b = (
 
 pub simple-from_pairs : (g : Graph) → AllPairs (λ a b. a ≢ b) g.edges → IsDistinct same_ends g.edges
 simple-from_pairs g pairs = IsDistinct-from_AllPairs same_ends-Decides g.edges pairs
-
-pub pairs-from_net : (g : Graph) → IsNet g → AllPairs (λ a b. a ≢ b) g.edges
-pairs-from_net g net = AllPairs-from_IsDistinct same_ends-Decides g.edges net.simple
 
 -- a flow is balanced where each inner vertex below the number of vertices is
 pub IsBalanced-from_none : (g : Graph) (flow : ℕ → ℕ) → IsNet g → ((v : ℕ) → v < g.vertices → IsTrue (is_inner g v) → IsBalancedAt g flow v) → IsBalanced g flow

@@ -15,12 +15,6 @@ is_list_le-cmp =
     same_from_slice_cmp nat_cmp (λ o. not (is_lt o)) (λ q p. is_list_le p q) refl (λ _ _. refl) (λ _ _. refl)
     (λ x y xs ys o h. grind (arith, nat_tests))
 
--- an edge list that is less than another stands before it
-pub is_list_before-cmp : (p q : List ℕ) (o : Ordering) → o ≡ slice_cmp nat_cmp p q → is_lt o ≡ is_list_before p q
-is_list_before-cmp =
-    same_from_slice_cmp nat_cmp is_lt is_list_before refl (λ _ _. refl) (λ _ _. refl)
-    (λ x y xs ys o h. grind (arith, nat_tests))
-
 -- of two edge lists that are not the same, the one that comes before stands before
 pub is_list_before-from_le : (p q : List ℕ) → is_list_le p q ≡ true → p ≢ q → is_list_before p q ≡ true
 is_list_before-from_le [] [] le apart = absurd (apart refl)

@@ -1,9 +1,8 @@
 -- Walks and runs by their places, and the tests of code on lists of edges.
 use Rattle.std.proofs.Common.{◌≡◌, ◌==◌, ℕ, zero, suc, ◌+◌, ◌-◌, ◌<◌, ◌∷◌, [], List, true, false, ◌&&◌, ◌||◌, length, take, drop, drop-cons, add-one, get_or, nat_eq, slice_index, refl, sym, ap, subst, ◌∙◌, arith, inl, inr}
-use Rattle.std.specs.List.{list_any}
 use Rattle.std.specs.Cmp.Lexicographic.{pointwise}
 use Rattle.std.proofs.lemmas.Bool.{cases_Bool, both_ways}
-use Rattle.decomposition.specs.Graph.{Graph, edge_count, tail, head, is_source, is_sink, is_walk_from, walk_end, is_run, is_path, has_edge, begins_with, contains_run}
+use Rattle.decomposition.specs.Graph.{Graph, edge_count, tail, head, is_source, is_sink, is_walk_from, walk_end, is_run, is_path, begins_with, contains_run}
 use Rattle.decomposition.proofs.Walks.{walk-cons}
 
 -- a walk ends at the head of its last edge
@@ -42,11 +41,6 @@ run-length g (e ∷ es) run = omega arith
 same_flip : (a b : ℕ) → (a == b) ≡ (b == a)
 same_flip a b = grind arith
 
--- an edge is in a list by either order of the test
-pub has_edge-flip : (es : List ℕ) (e : ℕ) → list_any (λ x. x == e) es ≡ has_edge es e
-has_edge-flip [] e = refl
-has_edge-flip (f ∷ es) e = rw (same_flip f e, has_edge-flip es e) refl
-
 -- what the `starts_with` of slices answers
 pub begins_with-pointwise : (es fs : List ℕ) → begins_with es fs ≡ pointwise nat_eq fs (take (length fs) es)
 begins_with-pointwise es [] = refl
@@ -56,10 +50,6 @@ begins_with-pointwise (e ∷ es) (f ∷ fs) = ap (λ b. b && begins_with es fs) 
 pub begins_with-none : (fs : List ℕ) → (length fs == 0) ≡ begins_with [] fs
 begins_with-none [] = refl
 begins_with-none (f ∷ fs) = grind arith
-
-pub contains_run-here : (es fs : List ℕ) → begins_with es fs ≡ true → contains_run es fs ≡ true
-contains_run-here [] fs h = h
-contains_run-here (e ∷ es) fs h = ap (λ b. b || contains_run es fs) h
 
 -- a list in which a run does not stand at the beginning, and what is left behind its first entry
 pub contains_run-step : (path run : List ℕ) (i : ℕ) → i < length path → begins_with (drop i path) run ≡ false → contains_run (drop (i + 1) path) run ≡ contains_run (drop i path) run

@@ -54,15 +54,3 @@ Took-more told now after bytes into n took within puts left =
           left ∙ ap (after_read n) took.left ∙ after_read-then (length bytes) n told
           ∙ ap (λ k. after_read k told) (sym (length-more bytes into n within));
     }
-
--- no more was taken than was left
-pub Took-within : (s : Selected) (now : Option (Option Selected)) (bytes : List ℕ) → Took (Some (Some s)) now bytes → length bytes ≤ length s.left
-Took-within s now bytes took =
-    omega (arith, ap length took.first, length-append bytes (drop (length bytes) s.left))
-
--- a read that puts nothing into some room comes where all was taken
-pub Took-all : (s : Selected) (now : Option (Option Selected)) (bytes into : List ℕ) (n : ℕ) → Took (Some (Some s)) now bytes →
-    0 < length into → n ≡ 0 → Puts now n into → s.left ≡ bytes
-Took-all s now bytes into n took room none puts =
-    let here : Puts (after_read (length bytes) (Some (Some s))) n into = subst (λ x. Puts x n into) took.left puts in
-    took.first ∙ ap (λ back. bytes ++ back) (here.end room none) ∙ append-nil bytes

@@ -9,34 +9,6 @@ pub if_same : {A B : Type 0} (b : Bool) (f : A → B) (x y : B) (u v : A) → x 
 if_same true f x y u v p q = p
 if_same false f x y u v p q = q
 
--- there is a line
-abbrev HasLine : List (List ℕ) → Type 0
-HasLine [] = ⊥
-HasLine (line ∷ lines) = Unit {0}
-
-onto_has : (b : ℕ) (lines : List (List ℕ)) → HasLine (onto_first b lines)
-onto_has b [] = tt
-onto_has b (line ∷ lines) = tt
-
-spelled_has : (bytes : List ℕ) → HasLine (spelled_lines (bytes ++ 10 ∷ []))
-spelled_has [] = tt
-spelled_has (b ∷ bytes) =
-    let rest = spelled_lines (bytes ++ 10 ∷ []) in
-    cond_both (b == 10) ([] ∷ rest) (onto_first b rest) HasLine (λ yes. tt) (λ no. onto_has b rest)
-
-onto_append : (b : ℕ) (lines more : List (List ℕ)) → HasLine lines → onto_first b (lines ++ more) ≡ onto_first b lines ++ more
-onto_append b [] more h = absurd h
-onto_append b (line ∷ lines) more h = refl
-
--- a line feed ends a line, whatever follows
-pub spelled_lines-feed : (bytes more : List ℕ) → spelled_lines (bytes ++ 10 ∷ more) ≡ spelled_lines (bytes ++ 10 ∷ []) ++ spelled_lines more
-spelled_lines-feed [] more = refl
-spelled_lines-feed (b ∷ bytes) more =
-    let rest = spelled_lines (bytes ++ 10 ∷ []) in
-    let same : spelled_lines (bytes ++ 10 ∷ more) ≡ rest ++ spelled_lines more = spelled_lines-feed bytes more in
-    if_same (b == 10) (λ lines. lines ++ spelled_lines more) _ _ ([] ∷ rest) (onto_first b rest)
-    (ap (λ lines. [] ∷ lines) same) (ap (onto_first b) same ∙ onto_append b rest (spelled_lines more) (spelled_has bytes))
-
 -- whether a content line of the last group stands before what follows these lines
 abbrev pub filled_after : Bool → List (List ℕ) → Bool
 filled_after filled [] = filled

@@ -30,20 +30,6 @@ use Rattle.graph_text.proofs.Earliest.{merge, earliest-append, earliest-All}
 abbrev pub Rises : List Line → Type 0
 Rises lines = AllPairs (λ a b. a.number ≤ b.number) lines
 
--- the numbers of the lines of a block rise, from its first one on
-numbered_lines-low : (n : ℕ) (lines : List (List ℕ)) → All (λ l. n ≤ l.number) (numbered_lines n lines)
-numbered_lines-low n [] = All-nil (λ (l : Line). n ≤ l.number)
-numbered_lines-low n (line ∷ lines) =
-    All-cons (λ l. n ≤ l.number) (line_at (n, line)) (numbered_lines (n + 1) lines) (omega arith)
-    (All-weaker (λ (l : Line). n + 1 ≤ l.number) (λ l. n ≤ l.number) (λ l h. omega (arith, h)) (numbered_lines (n + 1) lines) (numbered_lines-low (n + 1) lines))
-
-pub numbered_lines-rise : (n : ℕ) (lines : List (List ℕ)) → Rises (numbered_lines n lines)
-numbered_lines-rise n [] = λ i j d less within. absurd (omega (arith, within))
-numbered_lines-rise n (line ∷ lines) =
-    AllPairs-cons (λ a b. a.number ≤ b.number) (line_at (n, line)) (numbered_lines (n + 1) lines)
-    (All-weaker (λ (l : Line). n + 1 ≤ l.number) (λ l. n ≤ l.number) (λ l h. omega (arith, h)) (numbered_lines (n + 1) lines) (numbered_lines-low (n + 1) lines))
-    (numbered_lines-rise (n + 1) lines)
-
 -- With a content line the refusals of all lines are those that stay.
 pub line_refusals-content : (mode : Mode) (lines : List Line) → 0 < length (content_lines lines) → line_refusals mode lines ≡ settled_refusals mode lines
 line_refusals-content mode lines some =
@@ -252,10 +238,6 @@ module _ (graph : RawGraph) (lines : List Line) (each : edge_count graph.net ≡
   cycle_lines-first e d follows closes rises =
       lines_where-first (closes_cycle graph.net) Cycle lines e d (omega (arith, follows.there)) (closes_some graph.net e follows.before closes)
       (λ f low. false_from_ne_true _ (closes_none graph.net e f (omega (arith, follows.there)) follows.before low)) rises
-
--- A builder finds no edge outside and none that stands before, where there is none.
-pub no_outside : (g : Graph) → All (IsInside g.vertices) g.edges → (e : ℕ) → e < edge_count g → ¬ IsOutside g e
-no_outside g inside e there outside = let ends = inside e (0, 0) there in ⊎_elim (λ h. absurd (omega (arith, ends.0, h))) (λ h. absurd (omega (arith, ends.1, h))) outside
 
 pub no_repeated : (g : Graph) → AllPairs (λ a b. a ≢ b) g.edges → (e : ℕ) → e < edge_count g → ¬ IsRepeated g e
 no_repeated g distinct e there (k, within, is) =

@@ -142,12 +142,6 @@ has_join : (line : List ℕ) (gs : List (List (List ℕ))) → Has (join_first l
 has_join line [] = tt
 has_join line (group ∷ gs) = tt
 
-has_groups : (filled : Bool) (line : List ℕ) (lines : List (List ℕ)) → Has (groups filled (line ∷ lines))
-has_groups filled line lines =
-    let begins = is_hash_line line && filled in
-    let rest = join_first line (groups (is_content_line line || (filled && not begins)) lines) in
-    cond_both begins ([] ∷ rest) rest Has (λ yes. tt) (λ no. has_join line _)
-
 front_cons : (group : List (List ℕ)) (gs : List (List (List ℕ))) → Has gs → all_but_last (group ∷ gs) ≡ group ∷ all_but_last gs
 front_cons group [] h = absurd h
 front_cons group (g ∷ gs) h = refl

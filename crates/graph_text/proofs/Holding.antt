@@ -77,10 +77,6 @@ pub first_name : (ended : List (List ℕ)) (line text : List ℕ) (is_long : Boo
 first_name [] line text is_long number none shows same = name_in-shown line text is_long number shows same
 first_name (l ∷ ended) line text is_long number none shows same = absurd (omega arith)
 
-pub later_name : (ended : List (List ℕ)) (line : List ℕ) → 0 < length ended → name_of_lines (ended ++ line ∷ []) ≡ name_of_lines ended
-later_name [] line some = absurd (omega arith)
-later_name (l ∷ ended) line some = refl
-
 next_first : (blank : Bool) (cutter : Cutter) (line : ℕ) (l : List ℕ) → HoldsBlock cutter (line - 0) (if blank then [] else l ∷ []) →
     HoldsBlock cutter (line + 1 - length (if blank then [] else l ∷ [])) (if blank then [] else l ∷ [])
 next_first true cutter line l holds = record { name_is = holds.name_is; drafts = holds.drafts }
@@ -106,12 +102,6 @@ pub Adds-from : (new : Cutter) (left : Progress) → with_line left.ended (witho
 Adds-from new left lines name drafts = record {
   lines_are = lines;
   block_is = subst (λ all. HoldsBlock new (left.line - length left.ended) all) (sym lines) (record { name_is = name; drafts = drafts });
-}
-
-pub Adds-none : (cutter : Cutter) (left : Progress) → with_line left.ended (without_return left.open_line) ≡ left.ended → Holds cutter left → Adds cutter left false
-Adds-none cutter left lines held = record {
-  lines_are = lines;
-  block_is = subst (λ all. HoldsBlock cutter (left.line - length left.ended) all) (sym lines) held.block_is;
 }
 
 both_true : (a b : Bool) → (a && b) ≡ true → (a ≡ true) × (b ≡ true)
@@ -218,12 +208,6 @@ goes-both new bytes piece a b same goes =
       holds = subst (λ t. Holds new (left_by t)) whole goes.holds;
       same = ap complete (sym whole) ∙ goes.same ∙ same;
     }
-
-pub goes-none : (cutter : Cutter) (bytes piece : List ℕ) → Holds cutter (left_by bytes) → GoesOn cutter bytes (take 0 piece)
-goes-none cutter bytes piece holds = record {
-  holds = subst (λ t. Holds cutter (left_by t)) (sym (append-nil bytes)) holds;
-  same = ap complete (append-nil bytes);
-}
 
 all_blank : (bytes : List ℕ) → list_all is_blank (take_while is_blank bytes) ≡ true
 all_blank [] = refl

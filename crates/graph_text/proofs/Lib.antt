@@ -1,12 +1,10 @@
 pub mod Growing
 pub mod Cutting
-pub mod BlankText
 pub mod OpenLine
 pub mod Groups
 pub mod BlockPlaces
 pub mod Left
 pub mod Steps
-pub mod LinesIn
 pub mod Places
 pub mod Naming
 pub mod Mentions

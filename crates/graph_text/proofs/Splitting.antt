@@ -189,12 +189,6 @@ after_blanks-reverse_more rest n within t =
     ∙ ap after_blanks (reverse-append (take n rest) (get_or rest n 0 ∷ []))
     ∙ after_blanks-blank (get_or rest n 0) (reverse (take n rest)) t
 
-pub after_blanks-reverse_end : (rest : List ℕ) (n : ℕ) → n < length rest → is_blank (get_or rest n 0) ≡ false
-    → reverse (after_blanks (reverse (take (n + 1) rest))) ≡ take (n + 1) rest
-after_blanks-reverse_end rest n within f =
-    let e : reverse (take (n + 1) rest) ≡ get_or rest n 0 ∷ reverse (take n rest) = ap reverse (take_more rest n 0 within) ∙ reverse-append (take n rest) (get_or rest n 0 ∷ []) in
-    ap (λ xs. reverse (after_blanks xs)) e ∙ ap reverse (after_blanks-other (get_or rest n 0) (reverse (take n rest)) f ∙ sym e) ∙ reverse-reverse (take (n + 1) rest)
-
 -- a field of a line without a line feed is a field
 onto_first-fields : (b : ℕ) (fields : List (List ℕ)) → is_blank b ≡ false → (b == 10) ≡ false → All (λ f. IsTrue (is_field f)) fields → All (λ f. IsTrue (is_field f)) (onto_first b fields)
 onto_first-fields b [] blank feed each = All-cons (λ f. IsTrue (is_field f)) (b ∷ []) [] (alone b blank feed) (All-nil (λ f. IsTrue (is_field f)))

@@ -15,12 +15,6 @@ use Rattle.graph_text.proofs.Growing.{has_hash, complete-grows}
 use Rattle.graph_text.proofs.OpenLine.{grow}
 use Rattle.graph_text.proofs.Left.{quiet_after, begun_after, after-quiet, after-begun, hash-push, some_line, same_progress, left-more, complete-more, blocks-left}
 
-pub left_by-empty : left_by [] ≡ record { blocks = 0; line = 1; open_line = []; ended = [] }
-left_by-empty = refl
-
-pub complete-empty : complete [] ≡ []
-complete-empty = refl
-
 -- one byte more
 pub left_by-byte : (bytes : List ℕ) (b : ℕ) → left_by (bytes ++ b ∷ []) ≡ after_byte (left_by bytes) b
 left_by-byte bytes b = left-more bytes b
@@ -205,11 +199,6 @@ pub IsQuiet-blank : (p : Progress) (span : List ℕ) → IsLeft p → list_all i
 IsQuiet-blank p span left blank =
     IsQuiet-hashless p span left (ap has_hash (sym (append-nil span)) ∙ hash-blanks span [] blank) (feeds-blank span blank)
 
--- the number of the line in progress grows by one a byte at most
-pub line-grows : (bytes piece : List ℕ) → (left_by (bytes ++ piece)).line ≤ (left_by bytes).line + length piece
-line-grows bytes piece =
-    omega (arith, sum_by-append (λ b. if is_feed b then 1 else 0) bytes piece, count_by-le-length is_feed piece)
-
 -- where no byte up to a place completes a block, none up to an earlier one does
 pub complete-earlier : (bytes piece : List ℕ) (m n : ℕ) → m ≤ n → complete (bytes ++ take n piece) ≡ complete bytes → complete (bytes ++ take m piece) ≡ complete bytes
 complete-earlier bytes piece m n h same =
@@ -265,11 +254,6 @@ any_filled-numbered n (line ∷ lines) = ap (λ x. not (is_blank_line line) || x
 
 pub numbered_lines-filled : (n : ℕ) (lines : List (List ℕ)) → list_all is_blank_line lines ≡ false → 0 < length (filled_lines (numbered_lines n lines))
 numbered_lines-filled n lines h = filter-some _ (numbered_lines n lines) (any_filled-numbered n lines ∙ ap not h)
-
--- a block in progress that has a line has one that is not blank
-pub not_blank-begins : (lines : List (List ℕ)) → BeginsFilled lines → 0 < length lines → list_all is_blank_line lines ≡ false
-not_blank-begins [] begins some = absurd (omega (arith, some))
-not_blank-begins (line ∷ lines) begins some = ap (λ x. x && list_all is_blank_line lines) begins
 
 -- a blank line is of no other kind
 run-blank : (fields : List (List ℕ)) → are_no_fields fields ≡ true → are_run_fields fields ≡ false

@@ -118,9 +118,6 @@ pub record LeavesRest (g : Graph) (flow : List ℕ) (answer : List (List ℕ × 
   pub count : length rest ≡ edge_count g
   pub goes_on : (more : List (List ℕ × ℕ)) → IsWidestFirst g (slice_index rest) more → IsWidestFirst g (slice_index flow) (answer ++ more)
 
-pub LeavesRest-start : (g : Graph) (flow : List ℕ) → length flow ≡ edge_count g → LeavesRest g flow [] flow
-LeavesRest-start g flow count = record { count = count; goes_on = λ more is. is }
-
 pub LeavesRest-more : (g : Graph) (flow : List ℕ) (answer : List (List ℕ × ℕ)) (rest new p : List ℕ) (width : ℕ) → LeavesRest g flow answer rest → length new ≡ length rest → IsWidest g (slice_index rest) p → width ≡ path_width (slice_index rest) p
     → ((e : ℕ) → slice_index new e ≡ rest_after (slice_index rest) p width e) → LeavesRest g flow (answer ++ (p, width) ∷ []) new
 LeavesRest-more g flow answer rest new p width left count widest is after = record {

@@ -53,12 +53,6 @@ pub record Brings (g : Graph) (old flow : ℕ → ℕ) (v at : ℕ) : Type 0 whe
   pub kept : (e : ℕ) → old e ≤ flow e
   pub few : (e : ℕ) → flow e + depth g at ≤ old e + depth g v
 
-pub Sends-start : (g : Graph) (old : ℕ → ℕ) (v : ℕ) → v < g.vertices → Sends g old old v v
-Sends-start g old v h = record { vertex = h; moved = λ a but. but; kept = λ e. omega arith; few = λ e. omega arith }
-
-pub Brings-start : (g : Graph) (old : ℕ → ℕ) (v : ℕ) → v < g.vertices → Brings g old old v v
-Brings-start g old v h = record { vertex = h; moved = λ b but. but; kept = λ e. omega arith; few = λ e. omega arith }
-
 -- what a raised edge has
 raised-bounds : (old new : ℕ → ℕ) (e : ℕ) → IsRaised old new e → (d : ℕ) → (old d ≤ new d) × (new d ≤ old d + 1)
 raised-bounds old new e r d =
@@ -110,18 +104,6 @@ pub record CarriesBefore (g : Graph) (needed : ℕ → Bool) (flow : List ℕ) (
   pub balanced : IsBalanced g (slice_index flow)
   pub enough : (e : ℕ) → e < n → least_flow needed e ≤ slice_index flow e
   pub small : (e : ℕ) → slice_index flow e ≤ n * 16385
-
-pub CarriesBefore-more : (g : Graph) (needed : ℕ → Bool) (flow new : List ℕ) (n : ℕ) → CarriesBefore g needed flow n → length new ≡ length flow → IsMore (slice_index flow) (slice_index new) 16385
-    → least_flow needed n ≤ slice_index new n → (IsBalanced g (slice_index flow) → IsBalanced g (slice_index new)) → CarriesBefore g needed new (n + 1)
-CarriesBefore-more g needed flow new n c count more here balanced = record {
-  count = count ∙ c.count;
-  balanced = balanced c.balanced;
-  enough = λ e h. elim (cases_eq e n) [
-    | inl same ↦ subst (λ d. least_flow needed d ≤ slice_index new d) (sym same) here
-    | inr other ↦ let was : least_flow needed e ≤ slice_index flow e = c.enough e (omega arith) in omega (arith, more.kept e)
-  ];
-  small = λ e. omega (arith, c.small e, more.few e);
-}
 
 -- the edge at hand, if there is one, enters v
 abbrev pub IsOneInto : Graph → ℕ → Option ℕ → Type 0
