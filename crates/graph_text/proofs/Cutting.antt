@@ -1,8 +1,7 @@
 -- Laws on cutting a text into lines and groups in two parts.
-use Rattle.std.specs.Prelude.{◌≡◌, ℕ, ◌==◌, List, [], ◌∷◌, ◌++◌, Bool, true, false, not, ◌&&◌, ◌||◌, if◌then◌else◌, refl}
+use Rattle.std.specs.Prelude.{◌≡◌, ℕ, List, [], ◌∷◌, ◌++◌, Bool, true, false, not, ◌&&◌, ◌||◌, if◌then◌else◌, refl}
 use Rattle.std.proofs.Common.{◌∙◌, ap}
-use Rattle.std.proofs.lemmas.Bool.{cond_both}
-use Rattle.graph_text.specs.Lines.{spelled_lines, onto_first, is_hash_line, is_content_line}
+use Rattle.graph_text.specs.Lines.{is_hash_line, is_content_line}
 use Rattle.graph_text.specs.Blocks.{groups, join_first}
 
 pub if_same : {A B : Type 0} (b : Bool) (f : A → B) (x y : B) (u v : A) → x ≡ f u → y ≡ f v → (if b then x else y) ≡ f (if b then u else v)

@@ -6,8 +6,8 @@ use Rattle.std.specs.Prelude.{nat_lt}
 use Rattle.std.specs.Option.{IfSome}
 use Rattle.std.proofs.lemmas.Bool.{cases_Bool, cond-true, cond-false, and_from, and_left, and_right, false_from_ne_true, ne_eqb, eq-eqb, le-leb, cases_lt}
 use Rattle.std.proofs.lemmas.List.{append-nil, drop_all, take_all, drop_more, get_or_default, get_or-take, length-take-le}
-use Rattle.std.proofs.lemmas.List.Elements.{All-weaker, All-nil, All-cons, All-head, All-tail, All-map, All-filter, filter-append}
-use Rattle.std.proofs.lemmas.List.Kept.{AllPairs-filter, AllPairs-cons}
+use Rattle.std.proofs.lemmas.List.Elements.{All-cons, All-head, All-tail, All-map, All-filter, filter-append}
+use Rattle.std.proofs.lemmas.List.Kept.{AllPairs-filter}
 use Rattle.decomposition.specs.declared.Mode.{Mode}
 use Rattle.decomposition.specs.declared.Mode.TheVariants.{Exact}
 use Rattle.decomposition.specs.Graph.{Graph, IsNet, graph_before, edge_count, tail, head, is_inner, below}
@@ -16,13 +16,13 @@ use Rattle.decomposition.specs.Instance.{range_at}
 use Rattle.decomposition.proofs.Balance.{inner-parts}
 use Rattle.decomposition.proofs.Reaching.{closes_none, closes_some}
 use Rattle.decomposition.proofs.Walks.{edge_out_of}
-use Rattle.dag_net.specs.Build.{FollowsNet, IsOutside, IsRepeated, ClosesCycle, IsInside}
+use Rattle.dag_net.specs.Build.{FollowsNet, IsRepeated, ClosesCycle, IsInside}
 use Rattle.graph_text.specs.declared.refusal.Why.{Why}
 use Rattle.graph_text.specs.declared.refusal.Why.TheVariants.{LongLine, BadCount, BadFields, BadWeight, BadRange, RepeatedEdge, TooManyEdges, Cycle, Unconserved}
 use Rattle.graph_text.specs.declared.refusal.Refusal.{Refusal}
 use Rattle.graph_text.specs.declared.block.RawGraph.{RawGraph}
 use Rattle.graph_text.specs.Draft.{settled_refusals}
-use Rattle.graph_text.specs.Reading.{Line, line_at, numbered_lines, most_edges, filled_lines, content_lines, count_lines, edge_lines, long_lines, last_filled, is_count, weights_of, last_fields, is_weight, range_of, refused, bad_counts, bad_fields, bad_weights, bad_ranges, repeats, line_refusals, earlier, earliest, or_else, lines_where, closes_cycle, cycle_lines, is_unbalanced, unconserved_lines, lines_naming, most_bytes}
+use Rattle.graph_text.specs.Reading.{Line, most_edges, filled_lines, content_lines, count_lines, edge_lines, long_lines, last_filled, is_count, weights_of, last_fields, is_weight, range_of, refused, bad_counts, bad_fields, bad_weights, bad_ranges, repeats, line_refusals, earlier, earliest, or_else, lines_where, closes_cycle, cycle_lines, is_unbalanced, unconserved_lines, lines_naming, most_bytes}
 use Rattle.graph_text.specs.Lines.{are_no_fields, are_hash_fields}
 use Rattle.graph_text.proofs.Earliest.{merge, earliest-append, earliest-All}
 

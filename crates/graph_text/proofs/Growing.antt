@@ -2,7 +2,7 @@
 use Rattle.std.specs.Prelude.{◌≡◌, ℕ, suc, ◌+◌, ◌==◌, List, [], ◌∷◌, ◌++◌, length, drop, map, Bool, true, false, not, ◌&&◌, ◌||◌, if◌then◌else◌, ◌⊎◌, refl}
 use Rattle.std.specs.List.{list_all, prefix_len}
 use Rattle.std.proofs.Common.{sym, ◌∙◌, ap, subst, arith, true≢false, inl, inr}
-use Rattle.std.proofs.lemmas.Bool.{cond-true, cond-false, cond_both}
+use Rattle.std.proofs.lemmas.Bool.{cond-true, cond-false}
 use Rattle.std.proofs.lemmas.List.Folds.{length-prefix_len}
 use Rattle.graph_text.specs.Lines.{spelled_lines, onto_first, without_return, lines_of, is_blank, fields_from, are_no_fields, are_hash_fields, is_blank_line, is_hash_line, is_content_line}
 use Rattle.graph_text.specs.Blocks.{lead, groups, join_first, groups_of, all_but_last, graphs, numbered, complete, blocks, TextBlock}

@@ -7,7 +7,7 @@ use Rattle.std.specs.Prelude.{nat_eq, reverse}
 use Rattle.std.specs.List.{starts_with}
 use Rattle.std.specs.Cmp.{nat_eq_equiv}
 use Rattle.std.proofs.Common.{lit<}
-use Rattle.std.proofs.lemmas.List.{take_more, reverse-append, reverse-reverse}
+use Rattle.std.proofs.lemmas.List.{take_more, reverse-append}
 use Rattle.std.proofs.lemmas.Bool.{cases_Bool, cond-true, cond-false, cond_both, or_parts, or_from, or_cases, and_parts, and_from, and_left, and_right, not-true, ne_eqb, eqb-true}
 use Rattle.std.proofs.lemmas.List.Elements.{All-nil, All-cons, All-head, All-tail}
 use Rattle.graph_text.specs.Labels.{is_field}

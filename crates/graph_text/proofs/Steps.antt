@@ -5,7 +5,6 @@ use Rattle.std.proofs.Common.{sym, ◌∙◌, ap, subst, arith, inl, inr, true�
 use Rattle.std.proofs.lemmas.Bool.{cond-true, cond-false, cond_both, cases_Bool, and_parts, and_right, and_from, or_parts, or_from, eqb-true, false_from_ne_true, both_ways}
 use Rattle.std.proofs.lemmas.List.{append-nil, append_assoc, length_push, length-append, take-append-drop, take-take, nil_from_length}
 use Rattle.std.proofs.lemmas.List.Folds.{list_any-append}
-use Rattle.std.proofs.lemmas.List.Sums.{sum_by-append, count_by-le-length}
 use Rattle.graph_text.specs.Lines.{without_return, is_blank, is_blank_line, is_hash_line, is_content_line, is_run_line, fields_of, are_no_fields, are_run_fields}
 use Rattle.graph_text.specs.Blocks.{complete, blocks, is_graph}
 use Rattle.graph_text.specs.Progress.{Progress, is_feed, left_by, triggers, with_line, after_byte, block_in, completed, last_block}

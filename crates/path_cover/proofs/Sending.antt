@@ -1,5 +1,5 @@
 -- One unit more along a path, and so a first flow.
-use Rattle.std.proofs.Common.{Option, Some, MatchOption, ◌≡◌, ℕ, ◌+◌, ◌-◌, ◌*◌, ◌<◌, ◌≤◌, Bool, true, List, length, None, slice_index, slice_set, get_or-set_same, get_or-set_other, sym, subst, ◌∙◌, arith, inl, inr}
+use Rattle.std.proofs.Common.{Option, Some, MatchOption, ◌≡◌, ℕ, ◌+◌, ◌-◌, ◌*◌, ◌<◌, ◌≤◌, Bool, true, List, length, None, slice_index, slice_set, get_or-set_same, get_or-set_other, sym, subst, arith, inl, inr}
 use Rattle.std.proofs.lemmas.Bool.{cases_eq, cases_Bool}
 use Rattle.decomposition.specs.Graph.{Graph, IsNet, edge_count, tail, head, is_source, is_sink}
 use Rattle.decomposition.specs.Flow.{IsBalanced}
