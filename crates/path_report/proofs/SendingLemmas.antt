@@ -3,13 +3,9 @@ use Rattle.std.proofs.Common.{◌≡◌, ℕ, ◌+◌, ◌<◌, List, [], ◌∷
 use Rattle.std.specs.Prelude.{Result, Ok, Err, OnOk, OnErr, flat_map}
 use Rattle.std.proofs.lemmas.List.{take-append-drop, take_more, take_at}
 use Rattle.std.proofs.lemmas.List.Concat.{flat_map-append}
-use Rattle.flow_io.proofs.Adding.{Adds-then, Adds-nothing}
+use Rattle.flow_io.proofs.Adding.{Adds-then}
 use Rattle.flow_io.specs.Outside.{Adds, AddsPrefix}
 use Rattle.path_report.specs.Sending.{Sends, Stops}
-
--- nothing was sent
-pub Sends-nothing : (a : Option (List ℕ)) (held : List ℕ) → Sends a a held [] held
-Sends-nothing a held = record { sent = []; adds = Adds-nothing a; all = sym (append-nil held) }
 
 -- two texts in a row
 pub Sends-then : {a b c : Option (List ℕ)} {held mid last text more : List ℕ} → Sends a b held text mid → Sends b c mid more last →

@@ -1,18 +1,23 @@
 -- The text of a report, and which reports have one.
-use Rattle.std.specs.Prelude.{ℕ, ◌^◌, ◌==◌, List, [], ◌∷◌, ◌++◌, length, flat_map, Bool, true, false, not, ◌&&◌, nat_lt, nat_le, Option, Some, None, codes, decimal}
+use Rattle.std.specs.Prelude.{ℕ, ◌+◌, ◌^◌, ◌==◌, List, [], ◌∷◌, ◌++◌, length, flat_map, Bool, true, false, not, ◌&&◌, nat_lt, nat_le, Option, Some, None, is_none, codes, decimal}
 use Rattle.std.specs.List.{list_all, list_any, join_with_byte}
 use Rattle.decomposition.specs.declared.Mode.{Mode}
 use Rattle.decomposition.specs.declared.Mode.TheVariants.{Exact, Interval, Abs}
-use Rattle.decomposition.specs.Graph.{is_run}
+use Rattle.decomposition.specs.declared.Side.{Side}
+use Rattle.decomposition.specs.declared.Side.TheVariants.{Entering, Leaving}
+use Rattle.decomposition.specs.declared.Token.{Token}
+use Rattle.decomposition.specs.declared.Token.TheVariants.{Gap, Miss, Split, Step}
+use Rattle.decomposition.specs.Graph.{is_run, is_list_before}
 use Rattle.decomposition.specs.Answer.{comes_before, is_ordered}
 use Rattle.graph_text.specs.declared.refusal.Why.{Why}
 use Rattle.graph_text.specs.declared.refusal.Why.TheVariants.{Later, LongLine, BadCount, BadFields, BadWeight, BadRange, RepeatedEdge, TooManyEdges, Cycle, Unconserved}
 use Rattle.graph_text.specs.Lines.{is_blank}
 use Rattle.graph_text.specs.Labels.{LabelLists, name_at, tail_at, head_at}
 use Rattle.path_report.specs.declared.report.Mark.{Mark}
-use Rattle.path_report.specs.declared.report.Mark.TheVariants.{Optimal, Found}
+use Rattle.path_report.specs.declared.report.Mark.TheVariants.{Optimal, Infeasible, Bounds}
 use Rattle.path_report.specs.declared.report.Cert.{Cert}
-use Rattle.path_report.specs.declared.report.Cert.TheVariants.{Zero, Wide}
+use Rattle.path_report.specs.declared.report.Cert.TheVariants.{Zero, Wide, Tree, Cut, Crowd}
+use Rattle.path_report.specs.declared.report.Trail.{Trail}
 use Rattle.path_report.specs.declared.report.Solved.{Solved}
 use Rattle.path_report.specs.declared.report.Body.{Body}
 use Rattle.path_report.specs.declared.report.Body.TheVariants.{Refused, Solved as SolvedBody}
@@ -51,7 +56,13 @@ why_word Unconserved = codes "Unconserved"
 
 abbrev pub mark_word : Mark → List ℕ
 mark_word Optimal = codes "optimal"
-mark_word Found = codes "found"
+mark_word Infeasible = codes "infeasible"
+mark_word Bounds = codes "bounds"
+
+-- the word of a side: the lower bounds are too great on the edges into the set, or out of it
+abbrev pub side_word : Side → List ℕ
+side_word Entering = codes "in"
+side_word Leaving = codes "out"
 
 -- the weight of a path, and the names along it
 abbrev pub path_line : LabelLists → List ℕ × ℕ → List ℕ
@@ -60,10 +71,49 @@ path_line labels entry = line (codes "path" ∷ decimal entry.1 ∷ names_along 
 abbrev pub edge_line : LabelLists → ℕ → List ℕ
 edge_line labels e = line (codes "edge" ∷ name_at labels (tail_at labels e) ∷ name_at labels (head_at labels e) ∷ [])
 
+-- the names along a safe run
+abbrev pub run_line : LabelLists → List ℕ → List ℕ
+run_line labels run = line (codes "run" ∷ names_along labels run)
+
+-- a vertex of a cut
+abbrev pub vertex_line : LabelLists → ℕ → List ℕ
+vertex_line labels v = line (codes "vertex" ∷ name_at labels v ∷ [])
+
+-- a rule of a crowd, counted from 1 in the text
+abbrev pub rule_line : ℕ → List ℕ
+rule_line c = line (codes "rule" ∷ decimal (c + 1) ∷ [])
+
+-- a token, with its rule or slot counted from 1 in the text
+abbrev pub token_line : Token → List ℕ
+token_line Gap = line (codes "gap" ∷ [])
+token_line (Miss c) = line (codes "miss" ∷ decimal (c + 1) ∷ [])
+token_line (Split k) = line (codes "split" ∷ decimal (k + 1) ∷ [])
+token_line (Step k) = line (codes "step" ∷ decimal (k + 1) ∷ [])
+
+-- the number of slots, the limit, and the number of tokens
+abbrev pub trail_fields : Trail → List (List ℕ)
+trail_fields t = decimal t.decision.slots ∷ number_or_none t.decision.limit ∷ decimal (length t.tokens) ∷ []
+
 -- a certificate: its kind, and a line for each of its items
 abbrev pub cert_text : LabelLists → Cert → List ℕ
 cert_text labels Zero = line (codes "cert" ∷ codes "none" ∷ [])
 cert_text labels (Wide edges) = line (codes "cert" ∷ codes "wide" ∷ decimal (length edges) ∷ []) ++ flat_map (edge_line labels) edges
+cert_text labels (Tree tree) = line (codes "cert" ∷ codes "tree" ∷ trail_fields tree) ++ flat_map token_line tree.tokens
+cert_text labels (Cut side vertices) =
+    line (codes "cert" ∷ codes "cut" ∷ side_word side ∷ decimal (length vertices) ∷ []) ++ flat_map (vertex_line labels) vertices
+cert_text labels (Crowd e rules) =
+    line (codes "cert" ∷ codes "crowd" ∷ name_at labels (tail_at labels e) ∷ name_at labels (head_at labels e) ∷ decimal (length rules) ∷ [])
+    ++ flat_map rule_line rules
+
+-- a trail, where it is there: its decision, and a line for each of its tokens
+abbrev pub trail_text : Option Trail → List ℕ
+trail_text None = []
+trail_text (Some t) = line (codes "trail" ∷ trail_fields t) ++ flat_map token_line t.tokens
+
+-- the safe runs, where they are there: how many, and a line for each
+abbrev pub safe_text : LabelLists → Option (List (List ℕ)) → List ℕ
+safe_text labels None = []
+safe_text labels (Some runs) = line (codes "safe" ∷ decimal (length runs) ∷ []) ++ flat_map (run_line labels) runs
 
 -- the mark and the two bounds
 abbrev pub marks_text : Solved → List ℕ
@@ -73,7 +123,8 @@ marks_text s =
     ++ line (codes "upper" ∷ number_or_none s.upper ∷ [])
 
 abbrev pub solved_text : LabelLists → Solved → List ℕ
-solved_text labels s = marks_text s ++ flat_map (path_line labels) s.paths ++ cert_text labels s.cert
+solved_text labels s =
+    marks_text s ++ flat_map (path_line labels) s.paths ++ cert_text labels s.cert ++ trail_text s.trail ++ safe_text labels s.safe
 
 abbrev pub body_text : LabelLists → Body → List ℕ
 body_text labels (Refused r) = line (codes "refused" ∷ decimal r.line ∷ why_word r.why ∷ [])
@@ -117,15 +168,61 @@ is_path_entry labels entry = is_run (graph_at labels) entry.0 && (nat_le 1 entry
 abbrev pub are_edges : LabelLists → List ℕ → Bool
 are_edges labels edges = list_all (λ e. nat_lt e (length labels.edges)) edges && (is_ordered nat_lt edges && fits (length edges))
 
+-- vertices of the labels, rising
+abbrev pub are_vertices : LabelLists → List ℕ → Bool
+are_vertices labels vertices =
+    list_all (λ v. nat_lt v (length labels.names)) vertices && (is_ordered nat_lt vertices && fits (length vertices))
+
+-- whether a slot or a rule may stand in a report: counted from 1 it is at most 4,294,967,295
+abbrev pub is_place : ℕ → Bool
+is_place n = nat_le (n + 1) 4294967295
+
+-- rules, rising
+abbrev pub are_rules : List ℕ → Bool
+are_rules rules = list_all is_place rules && (is_ordered nat_lt rules && fits (length rules))
+
+-- whether the rule or the slot of a token, if it has one, may stand in a report
+abbrev pub is_token : Token → Bool
+is_token Gap = true
+is_token (Miss c) = is_place c
+is_token (Split k) = is_place k
+is_token (Step k) = is_place k
+
+-- whether the numbers of a trail may stand in a report
+abbrev pub is_trail : Trail → Bool
+is_trail t =
+    nat_lt t.decision.slots (2 ^ 32) && (fits_or_none t.decision.limit && (list_all is_token t.tokens && fits (length t.tokens)))
+
+-- the edges, the vertices and the numbers of a certificate may stand in a report, and its lists rise
 abbrev pub is_cert : LabelLists → Cert → Bool
 is_cert labels Zero = true
 is_cert labels (Wide edges) = are_edges labels edges
+is_cert labels (Tree tree) = is_trail tree
+is_cert labels (Cut side vertices) = are_vertices labels vertices
+is_cert labels (Crowd e rules) = nat_lt e (length labels.edges) && are_rules rules
+
+-- a trail stands exactly with the mark bounds
+abbrev pub has_trail : Mark → Option Trail → Bool
+has_trail Optimal trail = is_none trail
+has_trail Infeasible trail = is_none trail
+has_trail Bounds None = false
+has_trail Bounds (Some t) = is_trail t
+
+-- runs of the labels, rising by edge list
+abbrev pub are_runs : LabelLists → List (List ℕ) → Bool
+are_runs labels runs = list_all (is_run (graph_at labels)) runs && (is_ordered is_list_before runs && fits (length runs))
+
+-- the runs of a report, where they are there
+abbrev pub are_runs_or_none : LabelLists → Option (List (List ℕ)) → Bool
+are_runs_or_none labels None = true
+are_runs_or_none labels (Some runs) = are_runs labels runs
 
 abbrev pub is_regular_solved : LabelLists → Solved → Bool
 is_regular_solved labels s =
     fits_or_none s.lower
     && (fits_or_none s.upper
-    && (list_all (is_path_entry labels) s.paths && (is_ordered comes_before s.paths && is_cert labels s.cert)))
+    && (list_all (is_path_entry labels) s.paths
+    && (is_ordered comes_before s.paths && (is_cert labels s.cert && (has_trail s.mark s.trail && are_runs_or_none labels s.safe)))))
 
 abbrev pub is_regular_body : LabelLists → Body → Bool
 is_regular_body labels (Refused r) = nat_le 1 r.line && fits r.line

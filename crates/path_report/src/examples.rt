@@ -1,15 +1,11 @@
 //! The text of reports at worked examples, which the check computes.
-ghost use Rattle.std.specs.Prelude.{◌≡◌, codes, [], ◌∷◌, true, false};
+ghost use Rattle.std.specs.Prelude.{◌≡◌, codes, [], ◌∷◌, Some, None, true, false};
+ghost use Rattle.decomposition.specs.declared.Side.TheVariants.{Entering, Leaving};
+ghost use Rattle.decomposition.specs.declared.Token.TheVariants.{Miss, Split};
 ghost use Rattle.graph_text.specs.Labels.{empty_labels};
+ghost use Rattle.path_report.specs.declared.report.Cert.TheVariants.{Zero, Tree, Cut, Crowd};
 ghost use Rattle.path_report.specs.ReportText.{text_of, is_regular};
-ghost use Rattle.path_report.specs.Rows.{one_edge, two_sides, found_report, optimal_report, refused_report, sides_report};
-
-/// A path that was found, without a lower bound.
-pub fn found_by_example()
-    ensures text { text_of one_edge found_report
-        ≡ codes "graph 1 one\nmodel exact\nmark found\nlower 0\nupper 1\npath 5 s t\ncert none\nend\n" }
-    ensures regular { is_regular one_edge found_report ≡ true }
-{}
+ghost use Rattle.path_report.specs.Rows.{one_edge, two_sides, optimal_report, refused_report, sides_report, safe_report, trail_report, no_slot, one_slot, open_report, infeasible_report};
 
 /// A path that is the least answer, with an edge that shows it.
 pub fn optimal_by_example()
@@ -34,4 +30,56 @@ pub fn order_by_example()
     ensures rising { is_regular two_sides (sides_report ((1 ∷ 3 ∷ [], 2) ∷ (0 ∷ 2 ∷ [], 3) ∷ [])) ≡ false }
     ensures equal { is_regular two_sides (sides_report ((0 ∷ 2 ∷ [], 3) ∷ (1 ∷ 3 ∷ [], 3) ∷ [])) ≡ true }
     ensures twice { is_regular two_sides (sides_report ((0 ∷ 2 ∷ [], 3) ∷ (0 ∷ 2 ∷ [], 3) ∷ [])) ≡ false }
+{}
+
+/// Bounds without a certificate; the trail stands there and nowhere else.
+pub fn bounds_by_example()
+    ensures text { text_of two_sides (open_report 0 Zero (Some one_slot))
+        ≡ codes "graph 2\nmodel exact\nmark bounds\nlower 0\nupper 2\npath 3 s a t\npath 2 s b t\ncert none\ntrail 1 0 1\nstep 1\nend\n" }
+    ensures regular { is_regular two_sides (open_report 0 Zero (Some one_slot)) ≡ true }
+    ensures missing { is_regular two_sides (open_report 0 Zero None) ≡ false }
+    ensures extra { is_regular two_sides (trail_report (Some one_slot)) ≡ false }
+{}
+
+/// Bounds with a tree and a trail, and a tree that shows that there is no answer.
+pub fn tree_by_example()
+    ensures text { text_of two_sides (open_report 1 (Tree no_slot) (Some one_slot))
+        ≡ codes "graph 2\nmodel exact\nmark bounds\nlower 1\nupper 2\npath 3 s a t\npath 2 s b t\ncert tree 0 0 1\ngap\ntrail 1 0 1\nstep 1\nend\n" }
+    ensures regular { is_regular two_sides (open_report 1 (Tree no_slot) (Some one_slot)) ≡ true }
+    ensures none { text_of two_sides (infeasible_report (Tree (record { decision = record { slots = 2; limit = None }; tokens = Split 1 ∷ Miss 0 ∷ [] })))
+        ≡ codes "graph 2\nmodel exact\nmark infeasible\nlower none\nupper none\ncert tree 2 none 2\nsplit 2\nmiss 1\nend\n" }
+    ensures last { is_regular two_sides (infeasible_report (Tree (record { decision = record { slots = 0; limit = None }; tokens = Miss 4294967294 ∷ [] }))) ≡ true }
+    ensures above { is_regular two_sides (infeasible_report (Tree (record { decision = record { slots = 0; limit = None }; tokens = Miss 4294967295 ∷ [] }))) ≡ false }
+{}
+
+/// Safe runs: rising, a prefix first, none twice, and each a run.
+pub fn safe_by_example()
+    ensures text { text_of two_sides (safe_report ((0 ∷ 2 ∷ []) ∷ (1 ∷ 3 ∷ []) ∷ []))
+        ≡ codes "graph 2\nmodel exact\nmark optimal\nlower 2\nupper 2\npath 3 s a t\npath 2 s b t\ncert wide 2\nedge s a\nedge s b\nsafe 2\nrun s a t\nrun s b t\nend\n" }
+    ensures regular { is_regular two_sides (safe_report ((0 ∷ 2 ∷ []) ∷ (1 ∷ 3 ∷ []) ∷ [])) ≡ true }
+    ensures falling { is_regular two_sides (safe_report ((1 ∷ 3 ∷ []) ∷ (0 ∷ 2 ∷ []) ∷ [])) ≡ false }
+    ensures prefix { is_regular two_sides (safe_report ((0 ∷ []) ∷ (0 ∷ 2 ∷ []) ∷ [])) ≡ true }
+    ensures twice { is_regular two_sides (safe_report ((0 ∷ []) ∷ (0 ∷ []) ∷ [])) ≡ false }
+    ensures apart { is_regular two_sides (safe_report ((0 ∷ 3 ∷ []) ∷ [])) ≡ false }
+{}
+
+/// The vertices of a cut: rising, none twice, and each a vertex.
+pub fn cut_by_example()
+    ensures entering { text_of two_sides (infeasible_report (Cut Entering (1 ∷ 2 ∷ [])))
+        ≡ codes "graph 2\nmodel exact\nmark infeasible\nlower none\nupper none\ncert cut in 2\nvertex a\nvertex b\nend\n" }
+    ensures leaving { text_of two_sides (infeasible_report (Cut Leaving (3 ∷ [])))
+        ≡ codes "graph 2\nmodel exact\nmark infeasible\nlower none\nupper none\ncert cut out 1\nvertex t\nend\n" }
+    ensures regular { is_regular two_sides (infeasible_report (Cut Entering (1 ∷ 2 ∷ []))) ≡ true }
+    ensures twice { is_regular two_sides (infeasible_report (Cut Entering (1 ∷ 1 ∷ []))) ≡ false }
+    ensures outside { is_regular two_sides (infeasible_report (Cut Leaving (4 ∷ []))) ≡ false }
+{}
+
+/// The edge of a crowd, and its rules, counted from 1.
+pub fn crowd_by_example()
+    ensures text { text_of two_sides (infeasible_report (Crowd 2 (0 ∷ 9 ∷ [])))
+        ≡ codes "graph 2\nmodel exact\nmark infeasible\nlower none\nupper none\ncert crowd a t 2\nrule 1\nrule 10\nend\n" }
+    ensures regular { is_regular two_sides (infeasible_report (Crowd 2 (0 ∷ 9 ∷ []))) ≡ true }
+    ensures falling { is_regular two_sides (infeasible_report (Crowd 2 (9 ∷ 0 ∷ []))) ≡ false }
+    ensures outside { is_regular two_sides (infeasible_report (Crowd 4 (0 ∷ []))) ≡ false }
+    ensures above { is_regular two_sides (infeasible_report (Crowd 2 (4294967295 ∷ []))) ≡ false }
 {}

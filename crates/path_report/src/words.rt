@@ -1,8 +1,9 @@
 //! The words of reports.
 ghost use Rattle.std.specs.Prelude.{◌≡◌};
-ghost use Rattle.path_report.specs.ReportText.{mark_word, why_word};
+ghost use Rattle.path_report.specs.ReportText.{mark_word, side_word, why_word};
 
 use crate::report::Mark;
+use decomposition::Side;
 use graph_text::Why;
 
 /// The word of a mark.
@@ -11,7 +12,18 @@ pub fn word_of(mark: Mark) -> &'static [u8]
 {
     match mark {
         Mark::Optimal => b"optimal",
-        Mark::Found => b"found",
+        Mark::Infeasible => b"infeasible",
+        Mark::Bounds => b"bounds",
+    }
+}
+
+/// The word of the side of a cut.
+pub fn word_of_side(side: Side) -> &'static [u8]
+    ensures { result.now ≡ side_word side }
+{
+    match side {
+        Side::Entering => b"in",
+        Side::Leaving => b"out",
     }
 }
 
