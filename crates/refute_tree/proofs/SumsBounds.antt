@@ -1,0 +1,69 @@
+-- The bounds of a slot by those of its neighbours.
+use Rattle.std.proofs.Common.{◌^◌, ◌≡◌, ℕ, zero, suc, ◌+◌, ◌-◌, ◌<◌, ◌≤◌, min, max, List, [], ◌∷◌, length, get_or, set, slice_index, get_or-set_same, get_or-set_other, refl, sym, ◌∙◌, add-one, inl, inr, arith, Option, Some, None, is_none, true, true≢false}
+use Rattle.std.proofs.lemmas.Bool.{cases_eq}
+use Rattle.std.proofs.lemmas.List.{get_or-map, length-map}
+use Rattle.std.proofs.lemmas.List.Edits.{fill_by_more}
+use Rattle.decomposition.specs.Boxes.{Slot, slot_at, upper_at, lower_at}
+use Rattle.refute_tree.specs.declared.stack.Slot.{Slot as KeptSlot}
+use Rattle.link_cells.specs.Cells.{list_at}
+use Rattle.refute_tree.specs.Stack.{spelled, box_of}
+
+-- the upper bound of the next slot
+upper_at-suc : (b : List Slot) (k : ℕ) → suc k < length b → upper_at b (suc k) ≡ min (upper_at b k) (slot_at b (suc k)).hi
+upper_at-suc [] k h = absurd (omega arith)
+upper_at-suc (s ∷ []) k h = absurd (omega arith)
+upper_at-suc (s ∷ t ∷ b) zero h = refl
+upper_at-suc (s ∷ t ∷ b) (suc k) h = omega (arith, upper_at-suc (t ∷ b) k (omega arith))
+
+-- the lower bound of a slot by that of the next
+lower_at-suc : (b : List Slot) (k : ℕ) → k < length b → lower_at b k ≡ max (slot_at b k).lo (lower_at b (suc k))
+lower_at-suc [] k h = absurd (omega arith)
+lower_at-suc (s ∷ b) zero h = refl
+lower_at-suc (s ∷ b) (suc k) h = lower_at-suc b k (omega arith)
+
+-- a slot past the end has the lower bound 0
+pub lower_at-past : (b : List Slot) (k : ℕ) → length b ≤ k → lower_at b k ≡ 0
+lower_at-past [] k h = refl
+lower_at-past (s ∷ b) zero h = absurd (omega arith)
+lower_at-past (s ∷ b) (suc k) h = lower_at-past b k (omega arith)
+
+-- the box of kept slots has as many
+pub length-box : (lists : List (List ℕ)) (slots : List KeptSlot) → length (box_of lists slots) ≡ length slots
+length-box lists slots = length-map slots (spelled lists)
+
+-- a slot of the box of kept slots
+pub slot_at-box : (lists : List (List ℕ)) (slots : List KeptSlot) (k : ℕ) (s : KeptSlot) → k < length slots → slot_at (box_of lists slots) k ≡ spelled lists (get_or slots k s)
+slot_at-box lists slots k s h = get_or-map (spelled lists) slots k s (record { lo = 0; hi = 0; walk = [] }) h
+
+-- the upper bound of the first slot
+pub upper_at-first : (b : List Slot) → 0 < length b → (slot_at b 0).hi ≤ 2 ^ 64 - 1 → min (2 ^ 64 - 1) (slot_at b 0).hi ≡ upper_at b 0
+upper_at-first [] h small = absurd (omega arith)
+upper_at-first (s ∷ b) h small = omega arith
+
+-- and that of the next, by the least hi so far
+pub upper_at-next : (b : List Slot) (k least : ℕ) → least ≡ upper_at b k → k + 1 < length b → min least (slot_at b (k + 1)).hi ≡ upper_at b (k + 1)
+upper_at-next b k least is h = rw (add-one k, is) (sym (upper_at-suc b k (omega arith)))
+
+-- the lower bound of the slot before, by the greatest lo so far
+pub lower_at-before : (b : List Slot) (k greatest : ℕ) → greatest ≡ lower_at b k → 0 < k → k ≤ length b → max greatest (slot_at b (k - 1)).lo ≡ lower_at b (k - 1)
+lower_at-before b zero greatest is some h = absurd (omega arith)
+lower_at-before b (suc k) greatest is some h =
+    let e : suc k - 1 ≡ k = omega arith in
+    rw e (omega (arith, is, lower_at-suc b k (omega arith)))
+
+-- one value more, after those before it
+pub set_next : (f : ℕ → ℕ) (xs : List ℕ) (k v : ℕ) → k < length xs → v ≡ f k → ((j : ℕ) → j < k → slice_index xs j ≡ f j) → (j : ℕ) → j < k + 1 → slice_index (set xs k v) j ≡ f j
+set_next f xs k v h is done = rw is (fill_by_more f xs k 0 h done)
+
+-- or before those after it
+pub set_before : (f : ℕ → ℕ) (xs : List ℕ) (n i k v : ℕ) → k + 1 ≡ i → k < length xs → v ≡ f k → ((j : ℕ) → i ≤ j → j < n → slice_index xs j ≡ f j) → (j : ℕ) → k ≤ j → j < n → slice_index (set xs k v) j ≡ f j
+set_before f xs n i k v next h is done j from to =
+    elim (cases_eq j k) [
+      | inl same ↦ rw same (get_or-set_same xs k v 0 h ∙ is)
+      | inr other ↦ get_or-set_other xs k j v 0 other ∙ done j (omega arith) to
+    ]
+
+-- the list of an empty tail
+pub list_at-empty : (lists : List (List ℕ)) (tail : Option ℕ) → is_none tail ≡ true → list_at lists tail ≡ []
+list_at-empty lists None h = refl
+list_at-empty lists (Some k) h = absurd (true≢false (sym h))

@@ -1,0 +1,68 @@
+-- What is kept of the sums of a box.
+use Rattle.std.specs.Prelude.{◌≡◌, ℕ, ◌+◌, ◌≤◌, ◌<◌, ◌*◌, ◌^◌, ◌-◌, max, Bool, cond, List, length, slice_index, slice_index_or, vec_len}
+use Rattle.decomposition.specs.Graph.{Graph, edge_count, has_edge, paths}
+use Rattle.decomposition.specs.Answer.{sum_below}
+use Rattle.decomposition.specs.declared.Range.{Range}
+use Rattle.decomposition.specs.Instance.{range_at}
+use Rattle.decomposition.specs.Boxes.{Slot, slot_at, upper_at, lower_at, may_have}
+use Rattle.refute_tree.specs.declared.sums.Sums.{Sums}
+
+-- room for so many slots and edges
+pub record HasRoom (slots edges : ℕ) (s : Sums) : Type 0 where
+  pub uppers : vec_len s.uppers ≡ slots
+  pub lowers : vec_len s.lowers ≡ slots
+  pub low : vec_len s.low ≡ edges
+  pub high : vec_len s.high ≡ edges
+
+-- the upper bounds of the slots
+abbrev pub AreUppers : List Slot → List ℕ → Type 0
+AreUppers b uppers = (k : ℕ) → k < length b → slice_index_or uppers k 0 ≡ upper_at b k
+
+-- the lower bounds of the slots
+abbrev pub AreLowers : List Slot → List ℕ → Type 0
+AreLowers b lowers = (k : ℕ) → k < length b → slice_index_or lowers k 0 ≡ lower_at b k
+
+-- the bounds kept are those of the box
+pub record AreBounds (b : List Slot) (s : Sums) : Type 0 where
+  pub uppers : AreUppers b s.uppers.items
+  pub lowers : AreLowers b s.lowers.items
+
+-- each weight has so much more where a test passes, and the others are the same
+abbrev pub AddsWhere : (ℕ → Bool) → ℕ → List ℕ → List ℕ → Type 0
+AddsWhere test more old new = (e : ℕ) → e < length old → slice_index new e ≡ slice_index old e + cond (test e) more 0
+
+-- each weight is at most so much
+abbrev pub AreWithin : ℕ → List ℕ → Type 0
+AreWithin most weights = (e : ℕ) → e < length weights → slice_index weights e ≤ most
+
+-- for each edge the least weight that the first n slots put on it
+abbrev pub AreLows : List Slot → ℕ → List ℕ → Type 0
+AreLows b n low = (e : ℕ) → e < length low → slice_index low e ≡ sum_below (λ k. cond (has_edge (slot_at b k).walk e) (lower_at b k) 0) n
+
+-- for each edge the greatest weight that the first n slots may put on it, but for what they may put on every edge
+abbrev pub AreHighs : Graph → List Slot → ℕ → ℕ → List ℕ → Type 0
+AreHighs g b n everywhere high =
+    (e : ℕ) → e < length high → slice_index high e + everywhere ≡ sum_below (λ k. cond (may_have (paths g) (slot_at b k).walk e) (upper_at b k) 0) n
+
+-- a lower and an upper weight are added for a walk of a net, and all else is the same
+pub record AddsWalk (g : Graph) (walk : List ℕ) (lower upper : ℕ) (old new : Sums) : Type 0 where
+  pub uppers : new.uppers ≡ old.uppers
+  pub lowers : new.lowers ≡ old.lowers
+  pub low_room : vec_len new.low ≡ vec_len old.low
+  pub high_room : vec_len new.high ≡ vec_len old.high
+  pub low : AddsWhere (has_edge walk) lower old.low.items new.low.items
+  pub high : AddsWhere (may_have (paths g) walk) upper old.high.items new.high.items
+
+-- the weights of the first n slots, of which so much may be on every edge and is not kept
+pub record Weighs (g : Graph) (b : List Slot) (n : ℕ) (s : Sums) (everywhere : ℕ) : Type 0 where
+  pub room : HasRoom (length b) (edge_count g) s
+  pub bounds : AreBounds b s
+  pub low : AreLows b n s.low.items
+  pub high : AreHighs g b n everywhere s.high.items
+  pub low_small : AreWithin ((2 ^ 64 - 1) * n) s.low.items
+  pub high_small : AreWithin ((2 ^ 64 - 1) * n) s.high.items
+  pub everywhere_small : everywhere ≤ (2 ^ 64 - 1) * n
+
+-- how far the weights kept, and what may be on every edge, lie outside the range of an edge
+abbrev pub outside : Sums → List Range → ℕ → ℕ → ℕ
+outside s ranges everywhere e = max (slice_index s.low.items e - (range_at ranges e).hi) ((range_at ranges e).lo - (slice_index s.high.items e + everywhere))

@@ -1,0 +1,224 @@
+//! The list of boxes of a decision, to which tokens are applied.
+
+ghost use Rattle.std.specs.Prelude.{◌≡◌, ◌≢◌, ◌<◌, ◌≤◌, [], false, nat_lt, length, None, IfOk, IfSome, OnErr, IsTrue};
+ghost use Rattle.std.specs.List.{list_all};
+ghost use Rattle.decomposition.specs.declared.Token.TheVariants.{Split, Step};
+ghost use Rattle.decomposition.specs.Graph.{edge_count, is_run};
+ghost use Rattle.decomposition.specs.Instance.{greatest_hi};
+ghost use Rattle.decomposition.specs.Boxes.{gap, misses, lower_at, upper_at};
+ghost use Rattle.flow_models.specs.Problem.{instance};
+ghost use Rattle.refute_tree.specs.Front.{root_of, first_of, is_unfinished, may_branch, may_take, closing, Applies, IsFirstOpen, IsOpenAnswer, IsClosedOrNone};
+
+use crate::answer::first_paths;
+use crate::closing::{closing_token, is_above, is_missed};
+use crate::next::is_finished;
+use crate::replacing::{replace_first, sum_up};
+use crate::stack::Stack;
+use crate::sums::Sums;
+use dag_net::{Answer, Net};
+use decomposition::{Decision, Token};
+use flow_models::Problem;
+use std::alloc::{AllocError, Global};
+use std::marker::Model;
+
+/// The list of boxes of a decision that no token has closed yet. Tokens are applied to the first of them.
+#[derive(Debug, Drop)]
+pub struct Front<'a> {
+    net: &'a Net,
+    problem: &'a Problem,
+    limit: Option<u64>,
+    room: u32,
+    used: u32,
+    stack: Stack,
+    sums: Sums,
+    closing: Option<Token>,
+}
+
+impl<'a> Model for Front<'a> {
+    ghost use Rattle.refute_tree.specs.Front.{Boxes};
+
+    ghost Value = { Boxes };
+
+    ghost use Rattle.refute_tree.specs.Kept.{shown, IsKept};
+
+    ghost view = { shown };
+
+    ghost invariant = { IsKept };
+}
+
+impl<'a> Front<'a> {
+    /// The root box alone, and room for so many tokens.
+    pub fn root(
+        alloc: Global,
+        net: &'a Net,
+        p: &'a Problem,
+        d: &Decision,
+        tokens: u32,
+    ) -> Result<Front<'a>, AllocError>
+        requires ranged { length p.now.ranges ≡ edge_count net.now }
+        requires rules { IsTrue (list_all (is_run net.now) p.now.rules) }
+        requires cap { p.now.cap ≡ greatest_hi p.now.ranges }
+        ensures { IfOk result (λ front. front ≡ root_of (instance net.now p.now) d.now tokens) }
+    {
+        let stack = Stack::of_root(alloc, d.slots, p.cap, tokens)?;
+        let mut sums = Sums::with_room(alloc, d.slots as usize, net.edges() as usize)?;
+        sum_up(net, p, &stack, &mut sums);
+        let closing = closing_token(net, p, d.limit, &stack, &sums);
+        Ok(Front {
+            net,
+            problem: p,
+            limit: d.limit,
+            room: tokens,
+            used: 0,
+            stack,
+            sums,
+            closing,
+        })
+    }
+
+    /// The number of boxes.
+    pub fn left(&self) -> usize
+        ensures { result ≡ length self.now.boxes }
+    {
+        self.stack.count(self.net)
+    }
+
+    /// The number of tokens applied.
+    pub fn used(&self) -> u32
+        ensures used { result ≡ self.now.used }
+        ensures room { result ≤ self.now.room }
+    {
+        self.used
+    }
+
+    /// The gap of the first box: over all edges, how far its weights must lie outside the range.
+    pub fn gap(&self) -> u128
+        requires some { self.now.boxes ≢ [] }
+        ensures { result ≡ gap self.now.instance (first_of self.now.boxes) }
+    {
+        self.sums.gap
+    }
+
+    /// Whether no slot of the first box of a weight that may be positive may contain the rule.
+    pub fn missed(&self, rule: u32) -> bool
+        requires some { self.now.boxes ≢ [] }
+        requires rule { rule < length self.now.instance.rules }
+        ensures { result ≡ misses self.now.instance (first_of self.now.boxes) rule }
+    {
+        is_missed(self.net, self.problem, &self.stack, &self.sums, rule)
+    }
+
+    /// The token that closes the first box: the gap where it is legal, else the first legal miss.
+    pub fn closes(&self) -> Option<Token>
+        ensures { result ≡ closing self.now }
+    {
+        self.closing
+    }
+
+    /// Whether the slot of the first box may be split.
+    pub fn can_split(&self, slot: u32) -> bool
+        ensures { result ≡ may_take self.now (Split slot) }
+    {
+        self.can_branch(slot) && self.is_apart(slot)
+    }
+
+    /// Whether the walk of the slot of the first box may go on.
+    pub fn can_step(&self, slot: u32) -> bool
+        ensures { result ≡ may_take self.now (Step slot) }
+    {
+        self.can_branch(slot) && self.is_unfinished(slot)
+    }
+
+    /// The answer of the first box, where there is one at which no token may be taken.
+    pub fn answer(&self, alloc: Global) -> Result<Option<Answer>, AllocError>
+        ensures none { IfOk result (λ a. a ≡ None → IsClosedOrNone self.now) }
+        ensures found { IfOk result (λ a. IfSome a (IsOpenAnswer self.now)) }
+    {
+        if !self.is_open() {
+            return Ok(None);
+        }
+        if self.net.edges() == 0 {
+            return Ok(Some(Answer::new(alloc)));
+        }
+        let answer = first_paths(alloc, self.net, &self.stack, &self.sums)?;
+        Ok(Some(answer))
+    }
+
+    /// Applies a token: true where it is legal, and then the boxes are those after it; false where it is not, and then nothing has changed.
+    pub fn apply(&mut self, token: Token) -> Result<bool, AllocError>
+        requires room { self.old.used < self.old.room }
+        ensures ok { IfOk result (Applies self.old token self.new) }
+        ensures err { OnErr result (self.new ≡ self.old) }
+    {
+        if !self.may_take(token) {
+            return Ok(false);
+        }
+        replace_first(self.net, &self.sums, &mut self.stack, token)?;
+        sum_up(self.net, self.problem, &self.stack, &mut self.sums);
+        self.closing = closing_token(self.net, self.problem, self.limit, &self.stack, &self.sums);
+        self.used += 1;
+        Ok(true)
+    }
+
+    /// Whether the bounds of the slot of the first box differ.
+    fn is_apart(&self, slot: u32) -> bool
+        requires some { self.now.boxes ≢ [] }
+        requires slot { slot < length (first_of self.now.boxes) }
+        ensures { result ≡ nat_lt (lower_at (first_of self.now.boxes) slot) (upper_at (first_of self.now.boxes) slot) }
+    {
+        self.sums.lowers[slot as usize] < self.sums.uppers[slot as usize]
+    }
+
+    /// Whether the slot of the first box may have weight, and its walk has not reached a sink.
+    fn is_unfinished(&self, slot: u32) -> bool
+        requires some { self.now.boxes ≢ [] }
+        requires slot { slot < length (first_of self.now.boxes) }
+        ensures { result ≡ is_unfinished self.now.instance.graph (first_of self.now.boxes) slot }
+    {
+        let walk = self.stack.first()[slot as usize].walk;
+        self.sums.uppers[slot as usize] >= 1 && !is_finished(self.net, &self.stack.cells, walk)
+    }
+
+    /// Whether there is a first box, and no token may be taken at it.
+    fn is_open(&self) -> bool
+        ensures open { IsTrue result → IsFirstOpen self.now }
+        ensures closed { result ≡ false → IsClosedOrNone self.now }
+    {
+        if self.stack.is_empty() || self.closing.is_some() {
+            return false;
+        }
+        if self.net.edges() == 0 {
+            return true;
+        }
+        for slot in 0..self.stack.first().len() as u32 {
+            if self.is_apart(slot) || self.is_unfinished(slot) {
+                return false;
+            }
+        }
+        true
+    }
+
+    /// Whether there is a first box with that slot, the net has an edge, and no token closes the box.
+    fn can_branch(&self, slot: u32) -> bool
+        ensures { result ≡ may_branch self.now slot }
+    {
+        if self.stack.is_empty() || self.net.edges() == 0 {
+            return false;
+        }
+        (slot as usize) < self.stack.first().len() && self.closing.is_none()
+    }
+
+    /// Whether the token may be taken at the first box.
+    fn may_take(&self, token: Token) -> bool
+        ensures { result ≡ may_take self.now token }
+    {
+        match token {
+            Token::Gap => !self.stack.is_empty() && is_above(self.limit, self.gap()),
+            Token::Miss(rule) => !self.stack.is_empty()
+                && rule < self.problem.rules.len()
+                && self.missed(rule),
+            Token::Split(slot) => self.can_split(slot),
+            Token::Step(slot) => self.can_step(slot),
+        }
+    }
+}

@@ -1,0 +1,14 @@
+//! Boxes and tokens: the list of boxes of a decision, to which tokens are applied.
+#![tactic(auto)]
+
+pub use decomposition::{Decision, Token};
+pub use front::Front;
+
+mod answer;
+mod closing;
+mod front;
+mod misses;
+mod next;
+mod replacing;
+mod stack;
+mod sums;
