@@ -1,0 +1,5 @@
+pub mod Choosing
+pub mod RuleLists
+pub mod Going
+pub mod Ending
+pub mod Answering
