@@ -1,35 +1,23 @@
 -- What a decomposition of the weights of an exact instance is worth: it meets the model, and its entries are small.
-use Rattle.std.proofs.Common.{◌≡◌, ◌==◌, ℕ, ◌<◌, ◌≤◌, ◌^◌, List, [], ◌∷◌, Some, Result, Ok, Err, true, ◌&&◌, cond, nat_le, Bool, false, if◌then◌else◌, eqb-true, length, get_or, refl, sym, ap, subst, ◌∙◌, arith, true≢false, eq-eqb, leb-true, ltb-true}
+use Rattle.std.proofs.Common.{◌≡◌, ◌==◌, ℕ, ◌<◌, ◌≤◌, ◌^◌, List, [], ◌∷◌, Result, Ok, Err, true, ◌&&◌, cond, nat_le, length, get_or, refl, sym, ap, ◌∙◌, arith, true≢false, eq-eqb, leb-true, ltb-true}
 use Rattle.std.specs.Prelude.{All, IfOk, map, slice_index}
 use Rattle.std.proofs.lemmas.Bool.{and_parts, cond-true}
 use Rattle.std.proofs.lemmas.List.{length-map, get_or-map as get_or-map_in}
 use Rattle.std.proofs.lemmas.List.Sums.{sum_by-le, get_or-le-sum_by}
 use Rattle.std.proofs.Math.ListN.{get_or-map}
 use Rattle.decomposition.specs.declared.Range.{Range}
-use Rattle.decomposition.specs.declared.Mode.{Mode}
 use Rattle.decomposition.specs.declared.Mode.TheVariants.{Exact}
 use Rattle.decomposition.specs.Graph.{Graph, IsPath, is_path, edge_count, tail, head, has_edge}
 use Rattle.decomposition.specs.Flow.{Decomposes, IsBalanced}
-use Rattle.decomposition.specs.Answer.{Covers, weight_on, total_weight, HaveSamePaths, IsMerged, IsInReportOrder}
+use Rattle.decomposition.specs.Answer.{weight_on, total_weight, HaveSamePaths, IsMerged}
 use Rattle.decomposition.specs.Instance.{Instance, IsInstance, Meets, lower_bound, range_at}
-use Rattle.decomposition.specs.Width.{IsWidth, IsAntichain}
-use Rattle.decomposition.proofs.Antichains.{antichains_bound}
-use Rattle.decomposition.proofs.Excess.{error-from_decomposes}
+use Rattle.decomposition.proofs.Excess.{decomposes-from_error}
 use Rattle.decomposition.proofs.Members.{any-here}
 use Rattle.decomposition.proofs.Merging.{weight_on-where, IsAnswer-same_paths}
 use Rattle.decomposition.proofs.Root.{all-place}
 use Rattle.decomposition.proofs.Sums.{sum_below-same}
 use Rattle.decomposition.proofs.Walks.{walk-cons}
-use Rattle.graph_text.specs.Reading.{instance_of}
-use Rattle.graph_text.specs.declared.block.RawGraph.{RawGraph}
-use Rattle.path_report.specs.Laws.{IsFoundIn, IsCertOf}
-use Rattle.path_report.specs.ReportText.{is_regular_solved}
-use Rattle.path_report.specs.declared.report.Cert.{Cert}
-use Rattle.path_report.specs.declared.report.Mark.{Mark}
-use Rattle.path_report.specs.declared.report.Mark.TheVariants.{Optimal, Found}
-use Rattle.path_report.specs.declared.report.Solved.{Solved}
-use Rattle.path_report.proofs.Lawful.{found_is_regular}
-use Rattle.flowpaths_cli.specs.Right.{SolvedRight, HasLabels, IsCertFor, mark_of}
+use Rattle.path_report.specs.Laws.{IsEntryOf}
 
 -- a path has an edge of the graph
 some_edge : (g : Graph) (p : List ℕ) → IsPath g p → (e : ℕ) × (e < edge_count g) × (has_edge p e ≡ true)
@@ -60,7 +48,7 @@ total_small g flow a made small few =
 abbrev pub lows : List Range → List ℕ
 lows ranges = map (λ r. r.lo) ranges
 
-lows-at : (ranges : List Range) (e : ℕ) → slice_index (lows ranges) e ≡ (range_at ranges e).lo
+pub lows-at : (ranges : List Range) (e : ℕ) → slice_index (lows ranges) e ≡ (range_at ranges e).lo
 lows-at ranges e = get_or-map (λ (r : Range). r.lo) ranges e (record { lo = 0; hi = 0 })
 
 -- the lower bounds of an exact instance are balanced
@@ -74,7 +62,7 @@ lows_balanced i valid v inner =
     (λ e inside. ap (λ w. cond (tail i.graph e == v) w 0) (lows-at i.ranges e)))
 
 -- and each is at most the greatest weight of a text
-low-le : (i : Instance) → IsInstance Exact i → (e : ℕ) → e < length i.ranges → (range_at i.ranges e).lo ≤ 1000000000000
+pub low-le : (i : Instance) → IsInstance Exact i → (e : ℕ) → e < length i.ranges → (range_at i.ranges e).lo ≤ 1000000000000
 low-le i valid e there =
     let r = range_at i.ranges e in
     let bounds = and_parts (nat_le r.lo r.hi) (nat_le r.hi 1000000000000) (all-place (λ (r : Range). nat_le r.lo r.hi && nat_le r.hi 1000000000000) i.ranges (record { lo = 0; hi = 0 }) e valid.bounded there) in
@@ -90,7 +78,7 @@ pub lows_made : (i : Instance) (a : List (List ℕ × ℕ)) → Decomposes i.gra
 lows_made i a made = record { answer = made.answer; sums = λ e inside. made.sums e inside ∙ lows-at i.ranges e }
 
 -- what is made of a decomposition by merging is a decomposition
-merged_made : (g : Graph) (flow : ℕ → ℕ) (old new : List (List ℕ × ℕ)) → Decomposes g flow old → HaveSamePaths old new → IsMerged old new → ((e : ℕ) → weight_on new e ≡ weight_on old e) → Decomposes g flow new
+pub merged_made : (g : Graph) (flow : ℕ → ℕ) (old new : List (List ℕ × ℕ)) → Decomposes g flow old → HaveSamePaths old new → IsMerged old new → ((e : ℕ) → weight_on new e ≡ weight_on old e) → Decomposes g flow new
 merged_made g flow old new made same merged kept = record {
   answer = IsAnswer-same_paths g old new same
       (λ k d there. ltb-true 0 _ (all-place (λ (entry : List ℕ × ℕ). nat_le 1 entry.1) new d k merged.positive there))
@@ -104,60 +92,10 @@ pub merged_if_ok : {E : Type 0} (g : Graph) (flow : ℕ → ℕ) (old : List (Li
 merged_if_ok g flow old (Ok new) made same merged kept = merged_made g flow old new made same merged kept
 merged_if_ok g flow old (Err e) made same merged kept = tt
 
--- what is found by a decomposition of the lower bounds, with a certificate
-abbrev pub found : List (List ℕ × ℕ) → ℕ → ℕ → Mark → Cert → Solved
-found a lower upper mark cert = record { mark = mark; lower = Some lower; upper = Some upper; paths = a; cert = cert }
-
-equal_at : (lower upper : ℕ) (b : Bool) → (lower == upper) ≡ b → (if b then Optimal else Found) ≡ Optimal → lower ≡ upper
-equal_at lower upper true same is = eqb-true lower upper same
-equal_at lower upper false same is = absurd (let no' : ⊥ = cc in no')
-
--- an optimal mark says that the bounds are equal
-equal-from_mark : (lower upper : ℕ) → mark_of lower upper ≡ Optimal → lower ≡ upper
-equal-from_mark lower upper is = equal_at lower upper (lower == upper) refl is
-
--- it is right for the instance
-pub found_right : (mode : Mode) (graph : RawGraph) (a : List (List ℕ × ℕ)) (es : List ℕ) (lower upper : ℕ) (cert : Cert) → upper ≡ length a → lower ≡ length es → length a ≤ edge_count graph.net → mode ≡ Exact
-    → IsInstance mode (instance_of graph) → graph.runs ≡ [] → Decomposes graph.net (slice_index (lows graph.ranges)) a
-    → IsWidth (instance_of graph) (length es) → IsAntichain (instance_of graph) es → IsCertFor (instance_of graph) (length es) cert
-    → SolvedRight mode (instance_of graph) (found a lower upper (mark_of lower upper) cert)
-found_right mode graph a es lower upper cert counted many short exact valid none made wide chain shows =
-    let i = instance_of graph in
-    let is_exact = subst (λ m. IsInstance m i) exact valid in
-    let fine : Meets Exact i a = (made.answer, subst (λ rules. Covers rules a) (sym none) refl, error-from_decomposes i is_exact a (lows_made i a made)) in
-    let bound : (b : List (List ℕ × ℕ)) → Meets Exact i b → lower ≤ length b = λ b ok. omega (arith, many, antichains_bound i es b chain ok.0 ok.2) in
-    let right : SolvedRight Exact i (found a lower upper (mark_of lower upper) cert) = record {
-      meets = fine;
-      upper_is = ap Some counted;
-      few = omega (arith, short);
-      lower = lower;
-      lower_is = refl;
-      width = subst (IsWidth i) (sym many) wide;
-      cert = subst (λ n. IsCertFor i n cert) (sym many) shows;
-      mark_is = ap (mark_of lower) counted;
-      bound = bound;
-      optimal = λ is. record { meets = fine; least = λ b ok. omega (arith, counted, equal-from_mark lower upper is, bound b ok) };
-    } in
-    subst (λ m. SolvedRight m i (found a lower upper (mark_of lower upper) cert)) (sym exact) right
-
--- and regular for the labels of the graph
-pub found_regular : (mode : Mode) (graph : RawGraph) (a : List (List ℕ × ℕ)) (lower upper : ℕ) (mark : Mark) (cert : Cert) → lower < 2 ^ 64 → upper < 2 ^ 64 → mode ≡ Exact
-    → IsInstance mode (instance_of graph) → HasLabels graph → Decomposes graph.net (slice_index (lows graph.ranges)) a → IsInReportOrder a → IsCertOf graph.net cert
-    → is_regular_solved graph.labels (found a lower upper mark cert) ≡ true
-found_regular mode graph a lower upper mark cert low few exact valid fits made order shows =
-    let i = instance_of graph in
-    let is_exact = subst (λ m. IsInstance m i) exact valid in
-    let test = λ (entry : List ℕ × ℕ). is_path graph.net entry.0 && nat_le 1 entry.1 in
-    let bound : (e : ℕ) → e < edge_count graph.net → slice_index (lows graph.ranges) e ≤ 1000000000000
-    = λ e inside. omega (arith, lows-at graph.ranges e, low-le i is_exact e (omega (arith, valid.ranged))) in
-    let small = entries_small graph.net (slice_index (lows graph.ranges)) 1000000000000 a made bound in
-    let is_found : IsFoundIn graph.net (found a lower upper mark cert) = record {
-      lower = low;
-      upper = few;
-      paths = λ k d there.
-          let parts = and_parts _ _ (all-place test a d k made.answer there) in
-          record { path = parts.0; positive = leb-true _ _ parts.1; small = omega (arith, small k d there) };
-      order = order;
-      cert = shows;
-    } in
-    found_is_regular graph.net graph.labels (found a lower upper mark cert) (sym fits.edges) is_found
+-- the entries of an answer that meets the exact model fit a report
+pub entries_fit : (i : Instance) (a : List (List ℕ × ℕ)) → IsInstance Exact i → Meets Exact i a → All (IsEntryOf i.graph) a
+entries_fit i a valid meets k d there =
+    let made = decomposes-from_error i valid a meets.0 meets.2 in
+    let small = entries_small i.graph (lower_bound i) 1000000000000 a made (λ e inside. low-le i valid e (omega (arith, valid.ranged))) in
+    let parts = and_parts _ _ (all-place (λ (entry : List ℕ × ℕ). is_path i.graph entry.0 && nat_le 1 entry.1) a d k meets.0 there) in
+    record { path = parts.0; positive = leb-true _ _ parts.1; small = omega (arith, small k d there) }

@@ -4,11 +4,11 @@ use Rattle.std.specs.Prelude.{IfOk, IfErr, nat_le}
 use Rattle.std.proofs.lemmas.Bool.{and_from, le-leb, lt-ltb}
 use Rattle.decomposition.specs.declared.Mode.{Mode}
 use Rattle.decomposition.specs.declared.Mode.TheVariants.{Exact}
-use Rattle.decomposition.specs.Instance.{IsInstance}
 use Rattle.graph_text.specs.Blocks.{TextBlock}
+use Rattle.graph_text.specs.Accepted.{IsAccepted}
 use Rattle.graph_text.specs.Labels.{LabelLists}
 use Rattle.graph_text.specs.Reader.{handed}
-use Rattle.graph_text.specs.Reading.{read, instance_of, numbered_lines, raw_graph_of, refusal_of, err_or}
+use Rattle.graph_text.specs.Reading.{read, numbered_lines, raw_graph_of, refusal_of, err_or}
 use Rattle.graph_text.specs.declared.block.Block.{Block}
 use Rattle.graph_text.specs.declared.block.RawGraph.{RawGraph}
 use Rattle.graph_text.specs.declared.refusal.Refusal.{Refusal}
@@ -17,7 +17,6 @@ use Rattle.graph_text.proofs.RefusedLines.{refusal-line}
 use Rattle.path_report.specs.ReportText.{is_regular, is_regular_body, is_name, fits}
 use Rattle.path_report.specs.declared.report.Body.{Body}
 use Rattle.path_report.proofs.BlockNames.{is_name-name_of}
-use Rattle.flowpaths_cli.specs.Right.{HasLabels}
 use Rattle.flowpaths_cli.specs.Reporting.{IsHandedFor}
 
 -- what follows from the equation with Ok holds on Ok
@@ -25,18 +24,10 @@ on_ok : (r : Result RawGraph Refusal) (P : RawGraph → Type 0) → ((graph : Ra
 on_ok (Ok graph) P holds = holds graph refl
 on_ok (Err refusal) P holds = tt
 
-pub handed-instance : (mode : Mode) (text : TextBlock) (block : Block) → IsHandedFor mode text block → IfOk block.body (λ graph. IsInstance mode (instance_of graph))
-handed-instance mode text block h =
-    let P : Block → Type 0 = λ b. IfOk b.body (λ graph. IsInstance mode (instance_of graph)) in
-    let here : P (handed mode text) = on_ok (read mode text) (λ graph. IsInstance mode (instance_of graph)) (λ graph e. (graphs_are_accepted mode text graph h.is_block.no_feeds e).instance) in
-    subst P h.is_handed here
-
-pub handed-labels : (mode : Mode) (text : TextBlock) (block : Block) → IsHandedFor mode text block → IfOk block.body HasLabels
-handed-labels mode text block h =
-    let P : Block → Type 0 = λ b. IfOk b.body HasLabels in
-    let here : P (handed mode text) = on_ok (read mode text) HasLabels (λ graph e.
-    let accepted = graphs_are_accepted mode text graph h.is_block.no_feeds e in
-    record { edges = accepted.edges; vertices = accepted.vertices }) in
+pub handed-accepted : (mode : Mode) (text : TextBlock) (block : Block) → IsHandedFor mode text block → IfOk block.body (IsAccepted mode)
+handed-accepted mode text block h =
+    let P : Block → Type 0 = λ b. IfOk b.body (IsAccepted mode) in
+    let here : P (handed mode text) = on_ok (read mode text) (IsAccepted mode) (λ graph e. graphs_are_accepted mode text graph h.is_block.no_feeds e) in
     subst P h.is_handed here
 
 none_or : (o : Option Refusal) (graph : RawGraph) → graph.runs ≡ [] → IfOk (err_or o graph) (λ g. g.runs ≡ [])

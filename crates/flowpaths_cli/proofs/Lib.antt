@@ -7,3 +7,9 @@ pub mod Decomposed
 pub mod Accounts
 pub mod Widths
 pub mod Merged
+pub mod Solved
+pub mod TokenPlaces
+pub mod Attempts
+pub mod Ended
+pub mod WordNumbers
+pub mod WordSettings

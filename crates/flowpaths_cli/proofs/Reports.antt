@@ -23,10 +23,10 @@ report_on s block body = record { index = block.index; name = block.name; mode =
 
 -- it is a report of the block that was handed out
 pub report_is : (s : Settings) (text : TextBlock) (block : Block) (body : Body) (labels : LabelLists) →
-    handed s.mode text ≡ block → BodyRight s.mode block.body body → labels ≡ labels_of block.body →
+    handed s.mode text ≡ block → BodyRight s block.body body → labels ≡ labels_of block.body →
     IsTrue (is_regular labels (report_on s block body)) → IsReportOf s text (report_on s block body) (text_of labels (report_on s block body))
 report_is s text block body labels is_handed right are regular =
-    let P : Block → Type 0 = λ b. BodyRight s.mode b.body body → labels ≡ labels_of b.body →
+    let P : Block → Type 0 = λ b. BodyRight s b.body body → labels ≡ labels_of b.body →
     IsTrue (is_regular labels (report_on s b body)) → IsReportOf s text (report_on s b body) (text_of labels (report_on s b body)) in
     let here : P (handed s.mode text) = λ right' are' regular'.
     let r = report_on s (handed s.mode text) body in

@@ -1,7 +1,7 @@
 //! The top call.
 ghost use Rattle.std.specs.Prelude.{◌≡◌, ◌↔◌, ◌⊎◌, ℕ, ◌≤◌, List, ◌≢◌, is_some, IfSome, IfNone, IsNone};
-ghost use Rattle.decomposition.specs.declared.Mode.TheVariants.{Exact};
 ghost use Rattle.flow_io.specs.Outside.{Rose};
+ghost use Rattle.flowpaths_cli.specs.Right.{AreBuilt};
 ghost use Rattle.flowpaths_cli.specs.Words.{texts, settings_of};
 ghost use Rattle.flowpaths_cli.specs.Run.{WhereSeen, WhereWritten, Reads, Writes, Notes, note_of};
 
@@ -84,7 +84,7 @@ fn run_input<I: Inputs, O: Output>(
     inputs: &mut I,
     out: &mut O,
 ) -> Status
-    requires exact { settings.now.mode ≡ Exact }
+    requires built { AreBuilt settings.now }
     requires may_ask { I.may_ask inputs.old settings.now.file }
     ensures reads { WhereSeen (I.holds inputs.old settings.now.file) (I.selected inputs.new) (Reads settings.now result) }
     ensures writes { WhereSeen (I.holds inputs.old settings.now.file) (I.selected inputs.new) (λ seen.

@@ -2,8 +2,12 @@
 #![tactic(auto)]
 
 mod call;
+mod examples;
+mod options;
 mod reading;
 mod reporting;
+mod said;
+mod searching;
 mod settings;
 mod solving;
 mod stop;
@@ -11,6 +15,7 @@ mod telling;
 mod words;
 
 pub use call::flowpaths;
+pub use examples::{words_are_refused, words_are_taken};
 pub use settings::Settings;
 pub use solving::solve_block;
 pub use telling::tell;

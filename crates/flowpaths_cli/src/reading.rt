@@ -1,7 +1,7 @@
 //! The reading of an input, piece by piece, to its end or to its limit.
 ghost use Rattle.std.specs.Prelude.{◌≡◌, ◌⊎◌, List, ℕ};
-ghost use Rattle.decomposition.specs.declared.Mode.TheVariants.{Exact};
 ghost use Rattle.flow_io.specs.Outside.{Rose};
+ghost use Rattle.flowpaths_cli.specs.Right.{AreBuilt};
 ghost use Rattle.flowpaths_cli.specs.Reporting.{EndsRight, status_at};
 
 use crate::reporting::{report_end, report_piece};
@@ -34,7 +34,7 @@ pub fn report_input<I: Inputs, O: Output>(
     inputs: &mut I,
     out: &mut O,
 ) -> Status
-    requires exact { settings.now.mode ≡ Exact }
+    requires built { AreBuilt settings.now }
     ensures right { EndsRight settings.now result (I.selected inputs.old) (I.selected inputs.new)
         (O.written out.old) (O.written out.new) (Rose (O.faults out.old) (O.faults out.new)) }
     ensures fault { result ≡ Status.Fault → Rose (I.faults inputs.old) (I.faults inputs.new)

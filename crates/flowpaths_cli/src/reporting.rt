@@ -1,14 +1,12 @@
 //! The report of one block after another, each written before more of the input is read.
 ghost use Rattle.std.specs.Prelude.{◌≡◌, ◌≤◌, ◌<◌, ◌^◌, List, [], ◌∷◌, ◌++◌, ℕ, length, Option, IfOk, IfErr, IfSome, IsTrue};
-ghost use Rattle.decomposition.specs.declared.Mode.TheVariants.{Exact};
 ghost use Rattle.flow_io.specs.Outside.{Rose};
 ghost use Rattle.graph_text.specs.Blocks.{TextBlock, blocks, complete};
 ghost use Rattle.graph_text.specs.Reader.{waiting_of, IsTaken};
 ghost use Rattle.path_report.specs.declared.report.Report.{Report as AReport};
-ghost use Rattle.graph_text.specs.Reading.{instance_of};
-ghost use Rattle.decomposition.specs.Instance.{IsInstance};
+ghost use Rattle.graph_text.specs.Accepted.{IsAccepted};
 ghost use Rattle.path_report.specs.ReportText.{is_regular_body};
-ghost use Rattle.flowpaths_cli.specs.Right.{status_of, BodyRight, labels_of, HasLabels};
+ghost use Rattle.flowpaths_cli.specs.Right.{status_of, AreBuilt, BodyRight, labels_of};
 ghost use Rattle.flowpaths_cli.specs.Reporting.{Wrote, WroteFirst, WroteBeginning, Underway, IsUnderway, IsHandedFor, AreHandedFor};
 
 use crate::settings::Settings;
@@ -27,7 +25,7 @@ fn status_after(status: Status, body: &Body) -> Status
     match body {
         Body::Refused(_) => Status::Refused,
         Body::Solved(solved) => match (status, solved.mark) {
-            (Status::Clean, Mark::Found) => Status::Partial,
+            (Status::Clean, Mark::Bounds) => Status::Partial,
             _ => status,
         },
     }
@@ -39,12 +37,11 @@ fn answer(
     settings: &Settings,
     body: Result<RawGraph, Refusal>,
 ) -> Result<(Body, Labels), AllocError>
-    requires exact { settings.now.mode ≡ Exact }
-    requires valid { IfOk body (λ graph. IsInstance settings.now.mode (instance_of graph)) }
-    requires fits { IfOk body HasLabels }
+    requires built { AreBuilt settings.now }
+    requires valid { IfOk body (IsAccepted settings.now.mode) }
     requires no_runs { IfOk body (λ graph. graph.runs ≡ []) }
     requires numbered { IfErr body (λ refusal. 1 ≤ refusal.line) }
-    ensures right { IfOk result (λ found. BodyRight settings.now.mode body found.0) }
+    ensures right { IfOk result (λ found. BodyRight settings.now body found.0) }
     ensures labels { IfOk result (λ found. found.1 ≡ labels_of body) }
     ensures regular { IfOk result (λ found. IsTrue (is_regular_body found.1 found.0)) }
 {
@@ -65,7 +62,7 @@ fn report_block<O: Output>(
     out: &mut O,
     status: Status,
 ) -> Result<Status, Stop>
-    requires exact { settings.now.mode ≡ Exact }
+    requires built { AreBuilt settings.now }
     requires handed { (text : TextBlock) × IsHandedFor settings.now.mode text block }
     ensures done { IfOk result (λ after. (text : TextBlock) → IsHandedFor settings.now.mode text block →
         (shown : List TextBlock) (before : Option (List ℕ)) → Wrote settings.now shown status before (O.written out.old) →
@@ -102,7 +99,7 @@ fn report_waiting<O: Output>(
     out: &mut O,
     status: Status,
 ) -> Result<Status, Stop>
-    requires exact { settings.now.mode ≡ Exact }
+    requires built { AreBuilt settings.now }
     requires handed { IfSome (waiting_of reader.old) (λ block. (text : TextBlock) × IsHandedFor settings.now.mode text block) }
     ensures done { IfOk result (λ after. (waiting : List TextBlock) → AreHandedFor settings.now.mode waiting (waiting_of reader.old) →
         (shown : List TextBlock) (before : Option (List ℕ)) → Wrote settings.now shown status before (O.written out.old) →
@@ -130,7 +127,7 @@ pub fn report_piece<O: Output>(
     out: &mut O,
     status: Status,
 ) -> Result<Status, Stop>
-    requires exact { settings.now.mode ≡ Exact }
+    requires built { AreBuilt settings.now }
     requires underway { IsUnderway settings.now reader.old (2 ^ 63) status (O.written out.old) }
     requires short { length piece.now < 2 ^ 62 }
     ensures done { IfOk result (λ after. (bytes : List ℕ) (before : Option (List ℕ)) →
@@ -162,7 +159,7 @@ pub fn report_end<O: Output>(
     out: &mut O,
     status: Status,
 ) -> Result<Status, Stop>
-    requires exact { settings.now.mode ≡ Exact }
+    requires built { AreBuilt settings.now }
     requires underway { IsUnderway settings.now reader.old (2 ^ 63) status (O.written out.old) }
     ensures done { IfOk result (λ after. (bytes : List ℕ) (before : Option (List ℕ)) →
         Underway settings.now reader.old bytes status before (O.written out.old) →

@@ -1,65 +1,101 @@
 //! What a block is answered.
-ghost use Rattle.std.specs.Prelude.{◌≡◌, ℕ, ◌≤◌, [], length, slice_index, nat_le, nat_lt, All, map, IfOk, IsTrue};
+ghost use Rattle.std.specs.Prelude.{◌≡◌, ℕ, ◌≤◌, ◌^◌, ◌<◌, [], length, slice_index, nat_le, nat_lt, All, map, IfOk, IsTrue};
+ghost use Rattle.std.specs.List.{list_all};
 ghost use Rattle.decomposition.specs.declared.Mode.TheVariants.{Exact};
 ghost use Rattle.decomposition.specs.Answer.{is_ordered, IsInReportOrder};
 ghost use Rattle.decomposition.specs.Flow.{IsBalanced, Decomposes};
-ghost use Rattle.decomposition.specs.Graph.{Graph, edge_count};
-ghost use Rattle.decomposition.specs.Instance.{Instance, IsInstance, range_at};
-ghost use Rattle.decomposition.specs.Width.{IsAntichain, IsAntichainOf, IsWidthOf};
-ghost use Rattle.path_report.specs.Laws.{AreRisingEdges, IsCertOf};
+ghost use Rattle.decomposition.specs.Graph.{Graph, edge_count, is_run};
+ghost use Rattle.decomposition.specs.Instance.{Instance, range_at, greatest_hi};
+ghost use Rattle.decomposition.specs.Width.{IsAntichain, IsAntichainOf, IsWidth, IsWidthOf};
+ghost use Rattle.graph_text.specs.Accepted.{IsAccepted};
 ghost use Rattle.graph_text.specs.Reading.{instance_of};
+ghost use Rattle.path_report.specs.Laws.{AreRisingEdges, IsCertOf, IsFoundIn};
 ghost use Rattle.path_report.specs.ReportText.{is_regular_solved};
-ghost use Rattle.flowpaths_cli.specs.Right.{SolvedRight, HasLabels, IsCertFor, mark_of};
+ghost use Rattle.subpath_rules.specs.Rules.{AreRulesOf};
+ghost use Rattle.flowpaths_cli.specs.declared.settings.Settings.{Settings as Given};
+ghost use Rattle.flowpaths_cli.specs.Right.{AreBuilt, SolvedRight, IsCertFor};
+ghost use Rattle.flowpaths_cli.specs.Searched.{IsMergedWidest, IsSolvedBy};
 
+use crate::searching::{Ending, Searched, search_fewest};
 use crate::settings::Settings;
 use dag_net::{Answer, Ids, Net, Ranges};
+use flow_models::Problem;
 use graph_text::RawGraph;
 use greedy_paths::{GreedyFault, decompose};
 use path_cover::{Width, width};
 use path_report::{Cert, Mark, Solved};
 use std::alloc::{AllocError, Global};
+use subpath_rules::{RuleFault, Rules};
 
-/// Solves the graph of a block, in which no run must be covered.
+/// Solves the graph of a block, in which no run must be covered: the widest paths first, then searches for fewer, until
+/// there are as many as the width, or one path fewer is refuted, or a search is spent.
 pub fn solve_block(
     alloc: Global,
     graph: &RawGraph,
     settings: &Settings,
 ) -> Result<Solved, AllocError>
-    requires exact { settings.now.mode ≡ Exact }
-    requires valid { IsInstance settings.now.mode (instance_of graph.now) }
-    requires fits { HasLabels graph.now }
+    requires built { AreBuilt settings.now }
+    requires valid { IsAccepted settings.now.mode graph.now }
     requires no_runs { graph.now.runs ≡ [] }
     ensures regular { IfOk result (λ solved. IsTrue (is_regular_solved graph.now.labels solved)) }
-    ensures right { IfOk result (SolvedRight settings.now.mode (instance_of graph.now)) }
+    ensures right { IfOk result (SolvedRight settings.now (instance_of graph.now)) }
 {
     let flow = lower_bounds(alloc, &graph.ranges)?;
-    let paths = first_answer(alloc, &graph.net, &flow)?;
+    let first = first_answer(alloc, &graph.net, &flow)?;
     let antichain = widest_antichain(alloc, &graph.net, &graph.ranges)?;
-    let lower = antichain.len() as u64;
-    let upper = paths.len() as u64;
-    Ok(Solved {
-        mark: mark_of(lower, upper),
-        lower: Some(lower),
-        upper: Some(upper),
-        paths,
-        cert: cert_of(antichain),
-    })
+    let problem = problem_of(alloc, graph)?;
+    let Searched { paths, ending } = search_fewest(
+        alloc,
+        &graph.net,
+        &problem,
+        settings.nodes,
+        antichain.len(),
+        first,
+    )?;
+    Ok(solved_by(paths, antichain, ending))
 }
 
-/// The mark of bounds: optimal where they are equal.
-fn mark_of(lower: u64, upper: u64) -> Mark
-    ensures { result ≡ mark_of lower upper }
+/// What is said of the paths, by an antichain of as many edges as the width and by why the searches ended.
+fn solved_by(paths: Answer, antichain: Ids, ending: Ending) -> Solved
+    ensures right { (s : Given) (i : Instance) → AreBuilt s → IsSolvedBy s.nodes i paths antichain ending → SolvedRight s i result }
+    ensures found { (nodes : ℕ) (i : Instance) → IsSolvedBy nodes i paths antichain ending → IsFoundIn i.graph result }
 {
-    if lower == upper {
-        Mark::Optimal
-    } else {
-        Mark::Found
+    let upper = paths.len() as u64;
+    let width = antichain.len() as u64;
+    match ending {
+        Ending::Width => Solved {
+            mark: Mark::Optimal,
+            lower: Some(width),
+            upper: Some(upper),
+            paths,
+            cert: cert_of(antichain),
+            trail: None,
+            safe: None,
+        },
+        Ending::Refuted(tree) => Solved {
+            mark: Mark::Optimal,
+            lower: Some(upper),
+            upper: Some(upper),
+            paths,
+            cert: Cert::Tree(tree),
+            trail: None,
+            safe: None,
+        },
+        Ending::Spent(trail) => Solved {
+            mark: Mark::Bounds,
+            lower: Some(width),
+            upper: Some(upper),
+            paths,
+            cert: cert_of(antichain),
+            trail: Some(trail),
+            safe: None,
+        },
     }
 }
 
 /// The certificate of a width: none for 0.
 fn cert_of(antichain: Ids) -> Cert
-    ensures shows { (i : Instance) → IsAntichain i antichain → IsCertFor i (length antichain) result }
+    ensures shows { (nodes : ℕ) (i : Instance) → IsWidth i (length antichain) → IsAntichain i antichain → IsCertFor nodes Exact i (length antichain) result }
     ensures rising { (g : Graph) → AreRisingEdges g antichain → IsCertOf g result }
 {
     if antichain.len() == 0 {
@@ -67,6 +103,26 @@ fn cert_of(antichain: Ids) -> Cert
     } else {
         Cert::Wide(antichain)
     }
+}
+
+/// The problem of a graph.
+fn problem_of(alloc: Global, graph: &RawGraph) -> Result<Problem, AllocError>
+    requires runs { IsTrue (list_all (is_run graph.now.net) graph.now.runs) }
+    requires few { length graph.now.runs < 2 ^ 32 }
+    ensures ranges { IfOk result (λ problem. problem.ranges ≡ graph.now.ranges) }
+    ensures rules { IfOk result (λ problem. AreRulesOf graph.now.net graph.now.runs problem.rules) }
+    ensures cap { IfOk result (λ problem. problem.cap ≡ greatest_hi problem.ranges) }
+{
+    let mut ranges = Ranges::new(alloc);
+    for &range in graph.ranges.as_slice() {
+        ranges.push(range)?;
+    }
+    let rules = match Rules::build(alloc, &graph.net, &graph.runs) {
+        Ok(rules) => rules,
+        Err(RuleFault::Memory) => return Err(AllocError),
+        Err(RuleFault::NotARun { index: _ }) => unreachable!(),
+    };
+    Ok(Problem::new(&graph.net, ranges, rules))
 }
 
 /// As many edges with a lower bound of at least 1 as can be of which no two lie on one path, rising.
@@ -114,6 +170,7 @@ fn first_answer(alloc: Global, net: &Net, flow: &[u64]) -> Result<Answer, AllocE
     ensures sums { IfOk result (Decomposes net.now (slice_index flow.now)) }
     ensures order { IfOk result IsInReportOrder }
     ensures few { IfOk result (λ answer. length answer ≤ edge_count net.now) }
+    ensures widest { IfOk result (IsMergedWidest net.now (slice_index flow.now)) }
 {
     prove!(net.edges() <= 4096);
     match decompose(alloc, net, flow) {

@@ -1,7 +1,10 @@
 //! The words of the command line.
-ghost use Rattle.std.specs.Prelude.{◌≡◌, ◌↔◌, Some, IsNone, IfOk, option_copied};
-ghost use Rattle.flowpaths_cli.specs.Words.{file_named, texts, is_option, settings_of};
+ghost use Rattle.std.specs.Prelude.{◌≡◌, ◌↔◌, [], Some, IsNone, IfOk};
+ghost use Rattle.flowpaths_cli.specs.Right.{AreBuilt};
+ghost use Rattle.flowpaths_cli.specs.Words.{texts, settings_of};
+ghost use Rattle.flowpaths_cli.specs.Said.{settings_after};
 
+use crate::said::{Next, Said};
 use crate::settings::Settings;
 use dag_net::Mode;
 use flow_io::Word;
@@ -29,65 +32,38 @@ impl From<AllocError> for WordFault {
 }
 
 /// The most tokens of a search, where the words name no number.
-const NODES: u32 = 20_000;
+const DEFAULT_NODES: u32 = 20_000;
 
 impl Settings {
     /// The settings that the words give.
     pub fn of_words(alloc: Global, words: &[String]) -> Result<Settings, WordFault>
         ensures ok { IfOk result (λ settings. settings_of (texts words.now) ≡ Some settings) }
         ensures words { (result ≡ Err WordFault.Words) ↔ IsNone (settings_of (texts words.now)) }
+        ensures built { IfOk result AreBuilt }
+        ensures no_demo { IfOk result (λ settings. settings.demo ≡ None) }
     {
-        let Some(name) = file_of(words) else {
-            return Err(WordFault::Words);
-        };
-        let file = Word::from_string(String::from_str(alloc, name)?);
-        Ok(Settings {
-            mode: Mode::Exact,
-            nodes: NODES,
-            safe: false,
-            demo: None,
-            file,
-        })
+        match Said::by(words) {
+            Some(said) => settings_by(alloc, said),
+            None => Err(WordFault::Words),
+        }
     }
 }
 
-/// The input that the words name, where they are taken.
-fn file_of(words: &[String]) -> Option<&str>
-    ensures { option_copied result ≡ file_named (texts words.now) }
+/// The settings by what all words said.
+fn settings_by(alloc: Global, said: Said<'_>) -> Result<Settings, WordFault>
+    ensures ok { IfOk result (λ settings. settings_after (Some said.entry) [] ≡ Some settings) }
+    ensures words { (result ≡ Err WordFault.Words) ↔ IsNone (settings_after (Some said.entry) []) }
 {
-    match words {
-        [] => Some("-"),
-        [word] => {
-            let word = word.as_str();
-            if word == "--" {
-                Some("-")
-            } else if looks_like_option(word) {
-                None
-            } else {
-                Some(word)
-            }
-        }
-        [word, next] => {
-            let word = word.as_str();
-            let next = next.as_str();
-            if word == "--" {
-                Some(next)
-            } else if !looks_like_option(word) && next == "--" {
-                Some(word)
-            } else {
-                None
-            }
-        }
-        _ => None,
+    if matches!(said.next, Next::Value(_)) {
+        return Err(WordFault::Words);
     }
-}
-
-/// Whether a word begins with `-` and is longer.
-fn looks_like_option(word: &str) -> bool
-    ensures { result ≡ is_option word.now }
-{
-    match word.as_bytes() {
-        [first, _, ..] => *first == b'-',
-        _ => false,
-    }
+    let name = said.file.unwrap_or("-");
+    let file = Word::from_string(String::from_str(alloc, name)?);
+    Ok(Settings {
+        mode: Mode::Exact,
+        nodes: said.nodes.unwrap_or(DEFAULT_NODES),
+        safe: false,
+        demo: None,
+        file,
+    })
 }

@@ -2,42 +2,56 @@
 use Rattle.std.proofs.Common.{◌≤◌, ◌<◌, ◌^◌, length, ℕ, List, All, slice_index, sym, subst, ◌∙◌, arith}
 use Rattle.decomposition.specs.Flow.{IsBalanced, Decomposes}
 use Rattle.decomposition.specs.Instance.{IsInstance}
+use Rattle.flow_models.specs.Problem.{instance}
 use Rattle.graph_text.specs.Reading.{instance_of}
-use Rattle.flowpaths_cli.specs.Right.{SolvedRight}
+use Rattle.path_report.proofs.Lawful.{found_is_regular}
+use Rattle.flowpaths_cli.specs.Searched.{IsKnown, IsMergedWidest, EndsAs, IsSolvedBy}
+use Rattle.flowpaths_cli.proofs.Decomposed.{lows_small, lows_balanced}
 use Rattle.flowpaths_cli.proofs.Widths.{rising_edges}
-use Rattle.flowpaths_cli.proofs.Decomposed.{lows_small, lows_balanced, found, found_right, found_regular}
+use Rattle.flowpaths_cli.proofs.Ended.{problem_is, first_known, solved_facts}
 use Rattle.flowpaths_cli.proofs.solving.solve_block.Goals as goal
 
 pub first_answer-requires-clause-small : goal.first_answer-requires-clause-small
 first_answer-requires-clause-small c =
     let i = instance_of c.args.graph.now in
     subst (λ (ws : List ℕ). All (λ w. w ≤ 1000000000000) ws) (sym (c.deref.ensures.value ∙ c.in_ok-flow.ensures))
-    (lows_small i (subst (λ m. IsInstance m i) c.requires.exact c.requires.valid))
+    (lows_small i (subst (λ m. IsInstance m i) c.requires.built.exact c.requires.valid.instance))
 
 pub first_answer-requires-clause-balanced : goal.first_answer-requires-clause-balanced
 first_answer-requires-clause-balanced c =
     let i = instance_of c.args.graph.now in
     subst (λ (ws : List ℕ). IsBalanced i.graph (slice_index ws)) (sym (c.deref.ensures.value ∙ c.in_ok-flow.ensures))
-    (lows_balanced i (subst (λ m. IsInstance m i) c.requires.exact c.requires.valid))
+    (lows_balanced i (subst (λ m. IsInstance m i) c.requires.built.exact c.requires.valid.instance))
+
+pub search_fewest-requires-clause-known : goal.search_fewest-requires-clause-known
+search_fewest-requires-clause-known c =
+    let graph = c.args.graph.now in
+    let i = instance_of graph in
+    let made = subst (λ (ws : List ℕ). Decomposes graph.net (slice_index ws) c.in_ok-first.first) (c.deref.ensures.value ∙ c.in_ok-flow.ensures) c.in_ok-first.ensures.sums in
+    let known = first_known i c.in_ok-first.first (subst (λ m. IsInstance m i) c.requires.built.exact c.requires.valid.instance) c.requires.no_runs made c.in_ok-first.ensures.order c.in_ok-first.ensures.few in
+    subst (λ j. IsKnown j c.in_ok-first.first) (sym (problem_is graph c.in_ok-problem.problem c.requires.no_runs c.in_ok-problem.ensures.ranges c.in_ok-problem.ensures.rules)) known
+
+-- what is known when the searches have ended
+facts : (c : goal.After-drop-flow-2) → IsSolvedBy c.args.settings.now.nodes (instance_of c.args.graph.now) c.in_ok-paths.field-0.paths c.in_ok-antichain.antichain c.in_ok-paths.field-0.ending
+facts c =
+    let graph = c.args.graph.now in
+    let i = instance_of graph in
+    let es = c.in_ok-antichain.antichain in
+    let few : length es < 2 ^ 64 = omega (arith, c.len.ensures) in
+    solved_facts graph c.in_ok-problem.problem c.args.settings.now.nodes c.in_ok-first.first c.in_ok-paths.field-0.paths es c.in_ok-paths.field-0.ending
+    (subst (λ m. IsInstance m i) c.requires.built.exact c.requires.valid.instance) c.requires.no_runs
+    (problem_is graph c.in_ok-problem.problem c.requires.no_runs c.in_ok-problem.ensures.ranges c.in_ok-problem.ensures.rules)
+    (subst (λ (ws : List ℕ). IsMergedWidest graph.net (slice_index ws) c.in_ok-first.first) (c.deref.ensures.value ∙ c.in_ok-flow.ensures) c.in_ok-first.ensures.widest)
+    c.in_ok-paths.ensures.fewer c.in_ok-paths.ensures.known c.in_ok-antichain.ensures.width c.in_ok-antichain.ensures.antichain
+    (rising_edges graph.net _ es few c.in_ok-antichain.ensures.antichain c.in_ok-antichain.ensures.rising)
+    (subst (λ n. EndsAs c.args.settings.now.nodes (instance graph.net c.in_ok-problem.problem) n (length c.in_ok-paths.field-0.paths) c.in_ok-paths.field-0.ending) c.len.ensures c.in_ok-paths.ensures.ends)
 
 pub returns-clause-regular : goal.returns-clause-regular
 returns-clause-regular c =
     let graph = c.args.graph.now in
-    let paths = c.in_ok-paths.paths in
-    let es = c.in_ok-antichain.antichain in
-    let made = subst (λ (ws : List ℕ). Decomposes graph.net (slice_index ws) paths) (c.deref.ensures.value ∙ c.in_ok-flow.ensures) c.in_ok-paths.ensures.sums in
-    let few : length es < 2 ^ 64 = omega (arith, c.len-lower.ensures) in
-    found_regular c.args.settings.now.mode graph paths c.len-lower.result c.len-upper.result c.mark_of.result c.cert_of.result (omega arith) (omega arith)
-    c.requires.exact c.requires.valid c.requires.fits made c.in_ok-paths.ensures.order
-    (c.cert_of.ensures.rising graph.net (rising_edges graph.net _ es few c.in_ok-antichain.ensures.antichain c.in_ok-antichain.ensures.rising))
+    found_is_regular graph.net graph.labels c.solved_by.result (sym c.requires.valid.edges) (sym c.requires.valid.vertices)
+    (c.solved_by.ensures.found c.args.settings.now.nodes (instance_of graph) (facts c))
 
 pub returns-clause-right : goal.returns-clause-right
 returns-clause-right c =
-    let graph = c.args.graph.now in
-    let paths = c.in_ok-paths.paths in
-    let es = c.in_ok-antichain.antichain in
-    let made = subst (λ (ws : List ℕ). Decomposes graph.net (slice_index ws) paths) (c.deref.ensures.value ∙ c.in_ok-flow.ensures) c.in_ok-paths.ensures.sums in
-    let right = found_right c.args.settings.now.mode graph paths es c.len-lower.result c.len-upper.result c.cert_of.result c.len-upper.ensures.len c.len-lower.ensures c.in_ok-paths.ensures.few
-    c.requires.exact c.requires.valid c.requires.no_runs made
-    c.in_ok-antichain.ensures.width c.in_ok-antichain.ensures.antichain (c.cert_of.ensures.shows (instance_of graph) c.in_ok-antichain.ensures.antichain) in
-    subst (λ m. SolvedRight c.args.settings.now.mode (instance_of graph) (found paths c.len-lower.result c.len-upper.result m c.cert_of.result)) (sym c.mark_of.ensures) right
+    c.solved_by.ensures.right c.args.settings.now (instance_of c.args.graph.now) c.requires.built (facts c)

@@ -1,0 +1,33 @@
+//! The words at worked examples, which the check computes.
+ghost use Rattle.std.specs.Prelude.{◌≡◌, List, [], ◌∷◌, codes, IsNone};
+ghost use Rattle.flowpaths_cli.specs.Words.{settings_of};
+ghost use Rattle.flowpaths_cli.specs.Examples.{naming};
+
+/// Words that are taken, and the settings that they give.
+pub fn words_are_taken()
+    ensures none { settings_of [] ≡ naming 20000 (codes "-") }
+    ensures file { settings_of (codes "x" ∷ []) ≡ naming 20000 (codes "x") }
+    ensures no_name { settings_of (codes "" ∷ []) ≡ naming 20000 [] }
+    ensures equals { settings_of (codes "nodes=7" ∷ []) ≡ naming 20000 (codes "nodes=7") }
+    ensures next { settings_of (codes "--nodes" ∷ codes "7" ∷ codes "x" ∷ []) ≡ naming 7 (codes "x") }
+    ensures same { settings_of (codes "x" ∷ codes "--nodes=7" ∷ codes "--" ∷ []) ≡ naming 7 (codes "x") }
+    ensures zeros { settings_of (codes "--nodes=0000000007" ∷ codes "-" ∷ []) ≡ naming 7 (codes "-") }
+    ensures greatest { settings_of (codes "--nodes" ∷ codes "50000" ∷ []) ≡ naming 50000 (codes "-") }
+    ensures behind { settings_of (codes "--nodes" ∷ codes "1" ∷ codes "--" ∷ codes "--nodes" ∷ []) ≡ naming 1 (codes "--nodes") }
+    ensures twice { settings_of (codes "--" ∷ codes "--" ∷ []) ≡ naming 20000 (codes "--") }
+{}
+
+/// Words that are refused.
+pub fn words_are_refused()
+    ensures two_files { IsNone (settings_of (codes "x" ∷ codes "--" ∷ codes "y" ∷ [])) }
+    ensures two_numbers { IsNone (settings_of (codes "--nodes" ∷ codes "7" ∷ codes "--nodes=7" ∷ [])) }
+    ensures last { IsNone (settings_of (codes "x" ∷ codes "--nodes" ∷ [])) }
+    ensures no_value { IsNone (settings_of (codes "--nodes" ∷ codes "--" ∷ codes "7" ∷ [])) }
+    ensures no_digits { IsNone (settings_of (codes "--nodes=" ∷ [])) }
+    ensures eleven_digits { IsNone (settings_of (codes "--nodes=00000000007" ∷ [])) }
+    ensures zero { IsNone (settings_of (codes "--nodes" ∷ codes "0" ∷ [])) }
+    ensures greater { IsNone (settings_of (codes "--nodes" ∷ codes "50001" ∷ [])) }
+    ensures sign { IsNone (settings_of (codes "--nodes=+7" ∷ [])) }
+    ensures later { IsNone (settings_of (codes "--model" ∷ codes "exact" ∷ [])) }
+    ensures other { IsNone (settings_of (codes "--nodesx=7" ∷ [])) }
+{}
