@@ -1,14 +1,18 @@
 """Checks the reports of accepted graphs against their graphs, apart from the program.
 
-    check_sums.py GRAPHS REPORTS
+    check_sums.py GRAPHS REPORTS [NODES]
 
 Each graph begins with a `#` line, has no constraint line, and is balanced, as generate.py writes them. Of each report it is
 checked that number and name are the graph's, that each path leads from a source to a sink over edges of the graph, that the
 weights of the paths through an edge sum to its weight, that there is at most one path for each edge of positive weight, that
-`upper` is their number, and that they stand by falling weight, those of equal weight by rising edge list; that of the edges of the
-certificate no two lie on one path, that `lower` is their number, and that the mark is `optimal` exactly where both are equal.
+`upper` is their number, and that they stand by falling weight, those of equal weight by rising edge list; that of the edges of a
+wide certificate no two lie on one path and `lower` is their number; that the tokens of a tree refute one path fewer; that the mark is
+`optimal` exactly where both bounds are equal; and that else the trail is the rule list of one path fewer, with NODES tokens (20,000 where
+it is left out), and leaves a box at which some token is legal.
 """
 import sys
+
+from boxes import Decision
 
 
 def lines_of(path):
@@ -50,7 +54,7 @@ def reports_of(path):
         yield report
 
 
-def first_fault(number, name, edges, report):
+def first_fault(number, name, edges, report, nodes):
     """What is wrong with a report, or None."""
     if len(report) < 7:
         return "it is too short"
@@ -59,17 +63,55 @@ def first_fault(number, name, edges, report):
     if report[1] != b"model exact" or report[-1] != b"end":
         return "the model or the end is another"
     paths = [line for line in report if line.startswith(b"path ")]
-    shown = report[5 + len(paths) : -1]
     if report[4] != b"upper %d" % len(paths):
         return "upper is not the number of paths"
-    if shown[0] not in (b"cert none", b"cert wide %d" % (len(shown) - 1)):
-        return "the certificate is another"
-    lower = len(shown) - 1
-    if report[3] != b"lower %d" % lower or lower > len(paths):
-        return "lower is not the number of edges listed, or above upper"
-    if report[2] != (b"mark optimal" if lower == len(paths) else b"mark found"):
+    lower = int(report[3].split(b" ")[1])
+    if report[2] != (b"mark optimal" if lower == len(paths) else b"mark bounds") or lower > len(paths):
         return "the mark is another"
-    return first_path_fault(edges, report[5 : 5 + len(paths)]) or first_antichain_fault(edges, shown[1:])
+    shown = report[5 + len(paths) : -1]
+    trail = next((k for k, line in enumerate(shown) if line.startswith(b"trail ")), len(shown))
+    return (
+        first_path_fault(edges, report[5 : 5 + len(paths)])
+        or first_cert_fault(edges, lower, shown[:trail], nodes)
+        or first_trail_fault(edges, lower, len(paths), shown[trail:], nodes)
+    )
+
+
+def tokens_in(lines):
+    """Token lines as pairs of a word and a slot, counted from 0."""
+    tokens = []
+    for line in lines:
+        fields = line.split(b" ")
+        tokens.append((fields[0].decode(), int(fields[1]) - 1 if len(fields) == 2 else None))
+    return tokens
+
+
+def first_cert_fault(edges, lower, lines, nodes):
+    """What is wrong with a certificate of a lower bound."""
+    items = lines[1:]
+    if lines[0] == b"cert none":
+        return "a bound above 0 has no certificate" if lower or items else None
+    if lines[0] == b"cert wide %d" % len(items):
+        return "lower is not the number of edges listed" if lower != len(items) else first_antichain_fault(edges, items)
+    if lines[0] != b"cert tree %d 0 %d" % (lower - 1, len(items)) or len(items) > nodes:
+        return "the certificate is another"
+    illegal, boxes, _ = Decision(edges, lower - 1, 0).replay(tokens_in(items))
+    if illegal is not None:
+        return f"token {illegal} of the certificate is not legal"
+    return "the certificate leaves boxes" if boxes else None
+
+
+def first_trail_fault(edges, lower, upper, lines, nodes):
+    """What is wrong with a trail, which is there exactly where the bounds differ."""
+    if lower == upper:
+        return "there is a trail" if lines else None
+    if len(lines) != nodes + 1 or lines[0] != b"trail %d 0 %d" % (upper - 1, nodes):
+        return "the trail is another"
+    decision = Decision(edges, upper - 1, 0)
+    illegal, boxes, by_rule = decision.replay(tokens_in(lines[1:]))
+    if illegal is not None or not by_rule:
+        return "the trail is not the rule list"
+    return None if boxes and decision.rule_token(boxes[-1]) else "no token is legal after the trail"
 
 
 def first_antichain_fault(edges, lines):
@@ -118,22 +160,23 @@ def first_path_fault(edges, lines):
     return None
 
 
-def main(graphs, reports):
+def main(graphs, reports, nodes=20000):
     left = reports_of(reports)
-    number = paths = optimal = 0
+    number = paths = optimal = trees = 0
     for number, (name, edges) in enumerate(graphs_of(graphs), 1):
         report = next(left, [])
-        fault = first_fault(number, name, edges, report)
+        fault = first_fault(number, name, edges, report, nodes)
         if fault:
             sys.exit(f"check_sums.py: report {number}: {fault}")
         paths += sum(line.startswith(b"path ") for line in report)
         optimal += report[2] == b"mark optimal"
+        trees += any(line.startswith(b"cert tree ") for line in report)
     if next(left, None) is not None:
         sys.exit("check_sums.py: there are more reports than graphs")
-    print(f"{number} graphs, {optimal} optimal, {paths} paths: every sum and every certificate is right")
+    print(f"{number} graphs, {optimal} optimal, {trees} of them by a tree, {paths} paths: every sum, certificate and trail is right")
 
 
 if __name__ == "__main__":
-    if len(sys.argv) != 3:
+    if len(sys.argv) not in (3, 4):
         sys.exit(__doc__)
-    main(sys.argv[1], sys.argv[2])
+    main(sys.argv[1], sys.argv[2], *map(int, sys.argv[3:]))

@@ -2,6 +2,7 @@
 
     generate.py small COUNT [SEED]    COUNT graphs of about ten edges
     generate.py large COUNT [SEED]    COUNT graphs of 200 edges or a few more
+    generate.py tangled COUNT [SEED]  COUNT graphs of at most 60 edges, made of four to twelve paths that often meet
     generate.py comments BYTES        comment and blank lines, BYTES bytes in all
     generate.py long [LINES]          one graph: LINES comment lines, blank lines, and names of 60,000 bytes
 """
@@ -37,6 +38,28 @@ def large_graph(draw, number):
             weights[edge] = weights.get(edge, 0) + weight
     lines = [f"# graph {number}", "144"] + [f"{tail} {head} {weight}" for (tail, head), weight in weights.items()]
     return "\n".join(lines) + "\n"
+
+
+def tangled_graph(draw, number):
+    """Four to twelve weighted paths over nine layers of one to three vertices, so that it is balanced and the paths often meet."""
+    layers = [[f"v{layer}_{k}" for k in range(draw.randint(1, 3))] for layer in range(9)]
+    weights = {}
+    for _ in range(draw.randint(4, 12)):
+        names = [draw.choice(layer) for layer in layers]
+        weight = draw.randint(1, 100)
+        edges = list(zip(names, names[1:]))
+        if len(weights.keys() | set(edges)) > 60:
+            break
+        for edge in edges:
+            weights[edge] = weights.get(edge, 0) + weight
+    lines = [f"# graph {number}", str(sum(map(len, layers)))] + [f"{tail} {head} {weight}" for (tail, head), weight in weights.items()]
+    return "\n".join(lines) + "\n"
+
+
+def write_tangled(out, count, seed):
+    draw = random.Random(seed)
+    for number in range(1, count + 1):
+        out.write(tangled_graph(draw, number).encode())
 
 
 def write_large(out, count, seed):
@@ -81,6 +104,8 @@ def main(words):
         write_small(out, numbers[0], numbers[1] if len(numbers) > 1 else 1)
     elif kind == "large":
         write_large(out, numbers[0], numbers[1] if len(numbers) > 1 else 1)
+    elif kind == "tangled":
+        write_tangled(out, numbers[0], numbers[1] if len(numbers) > 1 else 1)
     elif kind == "comments":
         write_comments(out, numbers[0])
     elif kind == "long":
@@ -90,6 +115,6 @@ def main(words):
 
 
 if __name__ == "__main__":
-    if len(sys.argv) < 2 or sys.argv[1] not in ("small", "large", "comments", "long"):
+    if len(sys.argv) < 2 or sys.argv[1] not in ("small", "large", "tangled", "comments", "long"):
         sys.exit(__doc__)
     main(sys.argv[1:])
