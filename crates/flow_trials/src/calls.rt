@@ -1,5 +1,6 @@
 //! Direct calls of the crates below.
 
+use crate::problems::DIAMONDS;
 use dag_net::{BuildFault, IdLists, Ids, Net};
 use greedy_paths::{GreedyFault, decompose};
 use path_cover::width;
@@ -26,18 +27,6 @@ fn unbalanced(rt: HostRuntime) -> Result<(), Fail> {
     assert!(rt; matches!(refused, Err(GreedyFault::Unbalanced { vertex: 1 })));
     Ok(())
 }
-
-/// Two ways from a source to a vertex, and two from there to a sink.
-const DIAMONDS: [(u32, u32); 8] = [
-    (0, 1),
-    (1, 2),
-    (0, 3),
-    (3, 2),
-    (2, 4),
-    (4, 5),
-    (2, 6),
-    (6, 5),
-];
 
 #[test]
 fn widths(rt: HostRuntime) -> Result<(), Fail> {

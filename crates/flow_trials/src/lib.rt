@@ -4,9 +4,21 @@
 #[cfg(test)]
 mod calls;
 #[cfg(test)]
+mod diamonds;
+#[cfg(test)]
 mod faults;
+#[cfg(test)]
+mod fronts;
+#[cfg(test)]
+mod problems;
 #[cfg(test)]
 mod rows;
 mod runs;
+#[cfg(test)]
+mod searches;
+#[cfg(test)]
+mod trees;
+#[cfg(test)]
+mod words;
 
 pub use runs::{Ran, run, run_on};

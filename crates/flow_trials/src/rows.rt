@@ -19,7 +19,7 @@ const ONE: &str =
     "graph 1 one\nmodel exact\nmark optimal\nlower 1\nupper 1\npath 5 s t\ncert wide 1\nedge s t\nend\n";
 
 /// Inputs, their reports and their statuses.
-const REPORTS: [(&str, &str, Status); 14] = [
+const REPORTS: [(&str, &str, Status); 13] = [
     ("# one\n2\ns t 5\n", ONE, Status::Clean),
     ("", "", Status::Clean),
     ("# only a comment", "", Status::Clean),
@@ -43,11 +43,6 @@ const REPORTS: [(&str, &str, Status); 14] = [
         "# e\n0\n",
         "graph 1 e\nmodel exact\nmark optimal\nlower 0\nupper 0\ncert none\nend\n",
         Status::Clean,
-    ),
-    (
-        "# diamonds\n7\ns a 5\na m 5\ns b 2\nb m 2\nm c 4\nc t 4\nm d 3\nd t 3\n",
-        "graph 1 diamonds\nmodel exact\nmark found\nlower 2\nupper 3\npath 4 s a m c t\npath 2 s b m d t\npath 1 s a m d t\ncert wide 2\nedge s a\nedge s b\nend\n",
-        Status::Partial,
     ),
     (
         "# two\n4\ns a 3\ns b 2\na t 3\nb t 2\n",

@@ -13,7 +13,16 @@ pub struct Ran {
 }
 
 /// The room of an output that holds every report of a trial.
-const ROOM: usize = 4096;
+pub const ROOM: usize = 4096;
+
+/// The words as strings of their own.
+pub fn owned(alloc: Global, words: &[&str]) -> Result<Vec<String>, AllocError> {
+    let mut owned = Vec::new(alloc);
+    for word in words {
+        owned.push(String::from_str(alloc, word)?)?;
+    }
+    Ok(owned)
+}
 
 /// Runs the top call on these words and inputs.
 pub fn run(
@@ -24,11 +33,8 @@ pub fn run(
 ) -> Result<Ran, AllocError> {
     let mut out = out;
     let mut notes = MemOutput::new(alloc, ROOM, ROOM)?;
-    let mut owned = Vec::new(alloc);
-    for word in words {
-        owned.push(String::from_str(alloc, word)?)?;
-    }
-    let status = flowpaths(alloc, &owned, inputs, &mut out, &mut notes);
+    let words = owned(alloc, words)?;
+    let status = flowpaths(alloc, &words, inputs, &mut out, &mut notes);
     Ok(Ran { status, out, notes })
 }
 

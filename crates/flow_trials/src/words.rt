@@ -1,0 +1,90 @@
+//! The words of the command line, and what they give.
+
+use crate::runs::owned;
+use dag_net::Mode;
+use flowpaths_cli::{Settings, WordFault};
+use std::test::Fail;
+
+/// Words that are taken, the most tokens of a search that they give, and the name of the input.
+const TAKEN: [(&[&str], u32, &str); 21] = [
+    (&[], 20_000, "-"),
+    (&["x.graph"], 20_000, "x.graph"),
+    (&["-"], 20_000, "-"),
+    (&["--"], 20_000, "-"),
+    (&["--", "-x"], 20_000, "-x"),
+    (&["--", "--"], 20_000, "--"),
+    (&["x", "--"], 20_000, "x"),
+    (&["--", "-"], 20_000, "-"),
+    (&[""], 20_000, ""),
+    (&["--", ""], 20_000, ""),
+    (&["a=b"], 20_000, "a=b"),
+    (&["--nodes", "7"], 7, "-"),
+    (&["--nodes=7"], 7, "-"),
+    (&["--nodes", "1", "x"], 1, "x"),
+    (&["x", "--nodes", "50000"], 50_000, "x"),
+    (&["--nodes=0000000007", "x"], 7, "x"),
+    (&["--nodes", "7", "--", "--nodes"], 7, "--nodes"),
+    (&["--", "--nodes=7"], 20_000, "--nodes=7"),
+    (&["--nodes", "7", "-"], 7, "-"),
+    (&["nodes=7"], 20_000, "nodes=7"),
+    (&["--", "--help"], 20_000, "--help"),
+];
+
+/// Words that are refused.
+const REFUSED: [&[&str]; 32] = [
+    &["--nodes"],
+    &["x", "--nodes"],
+    &["--nodes="],
+    &["--nodes", ""],
+    &["--nodes", "--"],
+    &["--nodes", "--", "7"],
+    &["--nodes", "x"],
+    &["--nodes", "7x"],
+    &["--nodes", "+7"],
+    &["--nodes", "-7"],
+    &["--nodes=-7"],
+    &["--nodes", "0"],
+    &["--nodes=50001"],
+    &["--nodes", "00000000007"],
+    &["--nodes", "9999999999"],
+    &["--nodes", "4294967303"],
+    &["--nodes", "7", "--nodes", "7"],
+    &["x", "y"],
+    &["x", "--", "y"],
+    &["--", "x", "y"],
+    &["-", "-"],
+    &["--safe"],
+    &["--model", "exact"],
+    &["--model=exact"],
+    &["--paths=2"],
+    &["--demo", "1"],
+    &["--help"],
+    &["-h"],
+    &["--nodesx=7"],
+    &["-=7"],
+    &["--=x"],
+    &["-x"],
+];
+
+#[test]
+fn words_are_taken(rt: HostRuntime) -> Result<(), Fail> {
+    let alloc = rt.alloc();
+    for (words, nodes, file) in TAKEN {
+        let settings = Settings::of_words(alloc, &owned(alloc, words)?)?;
+        assert_eq!(rt; settings.nodes, nodes, "{words:?}");
+        assert!(rt; settings.file.as_str() == file, "{words:?}");
+        assert_eq!(rt; settings.mode, Mode::Exact, "{words:?}");
+        assert!(rt; !settings.safe && settings.demo.is_none(), "{words:?}");
+    }
+    Ok(())
+}
+
+#[test]
+fn words_are_refused(rt: HostRuntime) -> Result<(), Fail> {
+    let alloc = rt.alloc();
+    for words in REFUSED {
+        let refused = Settings::of_words(alloc, &owned(alloc, words)?);
+        assert!(rt; matches!(refused, Err(WordFault::Words)), "{words:?}");
+    }
+    Ok(())
+}
