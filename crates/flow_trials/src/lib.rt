@@ -15,6 +15,8 @@ mod problems;
 mod rows;
 mod runs;
 #[cfg(test)]
+mod safe;
+#[cfg(test)]
 mod searches;
 #[cfg(test)]
 mod trees;

@@ -5,33 +5,36 @@ use dag_net::Mode;
 use flowpaths_cli::{Settings, WordFault};
 use std::test::Fail;
 
-/// Words that are taken, the most tokens of a search that they give, and the name of the input.
-const TAKEN: [(&[&str], u32, &str); 21] = [
-    (&[], 20_000, "-"),
-    (&["x.graph"], 20_000, "x.graph"),
-    (&["-"], 20_000, "-"),
-    (&["--"], 20_000, "-"),
-    (&["--", "-x"], 20_000, "-x"),
-    (&["--", "--"], 20_000, "--"),
-    (&["x", "--"], 20_000, "x"),
-    (&["--", "-"], 20_000, "-"),
-    (&[""], 20_000, ""),
-    (&["--", ""], 20_000, ""),
-    (&["a=b"], 20_000, "a=b"),
-    (&["--nodes", "7"], 7, "-"),
-    (&["--nodes=7"], 7, "-"),
-    (&["--nodes", "1", "x"], 1, "x"),
-    (&["x", "--nodes", "50000"], 50_000, "x"),
-    (&["--nodes=0000000007", "x"], 7, "x"),
-    (&["--nodes", "7", "--", "--nodes"], 7, "--nodes"),
-    (&["--", "--nodes=7"], 20_000, "--nodes=7"),
-    (&["--nodes", "7", "-"], 7, "-"),
-    (&["nodes=7"], 20_000, "nodes=7"),
-    (&["--", "--help"], 20_000, "--help"),
+/// Words that are taken, the most tokens of a search that they give, whether safe runs are listed, and the name of the input.
+const TAKEN: [(&[&str], u32, bool, &str); 24] = [
+    (&[], 20_000, false, "-"),
+    (&["x.graph"], 20_000, false, "x.graph"),
+    (&["-"], 20_000, false, "-"),
+    (&["--"], 20_000, false, "-"),
+    (&["--", "-x"], 20_000, false, "-x"),
+    (&["--", "--"], 20_000, false, "--"),
+    (&["x", "--"], 20_000, false, "x"),
+    (&["--", "-"], 20_000, false, "-"),
+    (&[""], 20_000, false, ""),
+    (&["--", ""], 20_000, false, ""),
+    (&["a=b"], 20_000, false, "a=b"),
+    (&["--nodes", "7"], 7, false, "-"),
+    (&["--nodes=7"], 7, false, "-"),
+    (&["--nodes", "1", "x"], 1, false, "x"),
+    (&["x", "--nodes", "50000"], 50_000, false, "x"),
+    (&["--nodes=0000000007", "x"], 7, false, "x"),
+    (&["--nodes", "7", "--", "--nodes"], 7, false, "--nodes"),
+    (&["--", "--nodes=7"], 20_000, false, "--nodes=7"),
+    (&["--nodes", "7", "-"], 7, false, "-"),
+    (&["nodes=7"], 20_000, false, "nodes=7"),
+    (&["--", "--help"], 20_000, false, "--help"),
+    (&["--safe"], 20_000, true, "-"),
+    (&["x", "--safe", "--nodes=7"], 7, true, "x"),
+    (&["--safe", "--", "--safe"], 20_000, true, "--safe"),
 ];
 
 /// Words that are refused.
-const REFUSED: [&[&str]; 32] = [
+const REFUSED: [&[&str]; 33] = [
     &["--nodes"],
     &["x", "--nodes"],
     &["--nodes="],
@@ -53,7 +56,8 @@ const REFUSED: [&[&str]; 32] = [
     &["x", "--", "y"],
     &["--", "x", "y"],
     &["-", "-"],
-    &["--safe"],
+    &["--safe", "--safe"],
+    &["--safe=1"],
     &["--model", "exact"],
     &["--model=exact"],
     &["--paths=2"],
@@ -69,12 +73,15 @@ const REFUSED: [&[&str]; 32] = [
 #[test]
 fn words_are_taken(rt: HostRuntime) -> Result<(), Fail> {
     let alloc = rt.alloc();
-    for (words, nodes, file) in TAKEN {
+    for (words, nodes, safe, file) in TAKEN {
         let settings = Settings::of_words(alloc, &owned(alloc, words)?)?;
         assert_eq!(rt; settings.nodes, nodes, "{words:?}");
         assert!(rt; settings.file.as_str() == file, "{words:?}");
         assert_eq!(rt; settings.mode, Mode::Exact, "{words:?}");
-        assert!(rt; !settings.safe && settings.demo.is_none(), "{words:?}");
+        assert!(rt;
+            settings.safe == safe && settings.demo.is_none(),
+            "{words:?}"
+        );
     }
     Ok(())
 }

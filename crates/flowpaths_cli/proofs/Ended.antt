@@ -8,7 +8,7 @@ use Rattle.decomposition.specs.FirstAnswer.{IsFirstAnswer}
 use Rattle.decomposition.specs.Flow.{Decomposes}
 use Rattle.decomposition.specs.Instance.{Instance, IsInstance, lower_bound, range_at}
 use Rattle.decomposition.specs.Width.{IsAntichainOf, IsWidthOf}
-use Rattle.decomposition.proofs.Excess.{error-from_decomposes}
+use Rattle.decomposition.proofs.Excess.{error-from_decomposes, decomposes-from_error}
 use Rattle.decomposition.proofs.FirstAnswers.{widest_first_is_first_answer}
 use Rattle.flow_models.specs.Problem.{instance}
 use Rattle.flow_models.specs.declared.problem.Problem.{Problem}
@@ -57,3 +57,12 @@ solved_facts graph p nodes first a es ending valid none same merged fewer known 
   rising = rising;
   ends = subst (λ i. EndsAs nodes i (length es) (length a) ending) same ends;
 }
+
+-- what is known to meet makes up the lower bounds
+pub known_made : (graph : RawGraph) (p : Problem) (a : List (List ℕ × ℕ)) → IsInstance Exact (instance_of graph) → instance graph.net p ≡ instance_of graph → IsKnown (instance graph.net p) a
+    → Decomposes graph.net (slice_index (lows graph.ranges)) a
+known_made graph p a valid same known =
+    let i = instance_of graph in
+    let meets = (subst (λ j. IsKnown j a) same known).meets in
+    let made = decomposes-from_error i valid a meets.0 meets.2 in
+    record { answer = made.answer; sums = λ e inside. made.sums e inside ∙ sym (lows-at graph.ranges e) }

@@ -13,3 +13,5 @@ pub mod Attempts
 pub mod Ended
 pub mod WordNumbers
 pub mod WordSettings
+pub mod SafeLists
+pub mod SecondNames

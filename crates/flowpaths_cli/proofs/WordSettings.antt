@@ -1,6 +1,6 @@
 -- Settings that words give have a number of tokens in its range, since each item of the words that is one has.
 use Rattle.std.proofs.Common.{◌≡◌, ◌≤◌, ℕ, Bool, true, false, ◌&&◌, cond, List, [], ◌∷◌, Option, None, Some, Result, Ok, Err, lit≤, get_or, subst, map, refl}
-use Rattle.std.specs.Prelude.{option_map, option_and_then, IfSome, IfOk, filter_map}
+use Rattle.std.specs.Prelude.{codes, option_map, option_and_then, IfSome, IfOk, filter_map}
 use Rattle.std.specs.Option.{option_map_or}
 use Rattle.std.specs.Str.{bytes_eq}
 use Rattle.std.proofs.lemmas.Bool.{cond_both, leb-true}
@@ -19,6 +19,7 @@ IsLimit n = (1 ≤ n) × (n ≤ most_nodes)
 -- an item that is in its range, if it is a number
 abbrev pub IsWithin : Item → Type 0
 IsWithin (Item.limit n) = IsLimit n
+IsWithin Item.safely = Unit {0}
 IsWithin (Item.input name) = Unit {0}
 
 -- each of these items is
@@ -49,7 +50,9 @@ either (Some option) f other P some none = some option
 
 -- a word by itself
 item-within : (word : List ℕ) → IfSome (item_of word) IsWithin
-item-within word = either (option_before word) _ _ (λ item. IfSome item IsWithin) (λ option. valued-within option _) (named-within word)
+item-within word =
+    cond_both (bytes_eq word (codes "--safe")) (Some Item.safely) _ (λ item. IfSome item IsWithin) (λ _. tt)
+    (λ _. either (option_before word) _ _ (λ item. IfSome item IsWithin) (λ option. valued-within option _) (named-within word))
 
 -- an item before others
 with_item-within : (item : Option Item) (items : Option (List Item)) → IfSome item IsWithin → IfSome items AreWithin → IfSome (with_item item items) AreWithin
@@ -78,6 +81,7 @@ items-within (word ∷ next ∷ words) =
 first-within : (items : List Item) → AreWithin items → IsLimit (get_or (filter_map limit_of items) 0 default_nodes)
 first-within [] all = (lit≤ tt, lit≤ tt)
 first-within (Item.limit n ∷ items) all = all.0
+first-within (Item.safely ∷ items) all = first-within items all.1
 first-within (Item.input name ∷ items) all = first-within items all.1
 
 settings-within : (items : Option (List Item)) → IfSome items AreWithin → IfSome (option_and_then (λ is. settings_from (given is)) items) AreBuilt
@@ -85,7 +89,7 @@ settings-within None all = tt
 settings-within (Some items) all =
     let limit = first-within items all in
     cond_both (are_single (given items)) (Some (settings_at (given items))) None
-    (λ o. IfSome o AreBuilt) (λ _. record { exact = refl; least = limit.0; most = limit.1; plain = refl }) (λ _. tt)
+    (λ o. IfSome o AreBuilt) (λ _. record { exact = refl; least = limit.0; most = limit.1 }) (λ _. tt)
 
 -- the settings that words give, if a call answers them
 pub ok-built : {E : Type 0} (words : List (List ℕ)) (r : Result Settings E) → IfOk r (λ s. settings_of words ≡ Some s) → IfOk r AreBuilt

@@ -1,5 +1,5 @@
 -- What a word of the command line says by itself, and what an option says with its value.
-use Rattle.std.specs.Prelude.{ℕ, ◌==◌, List, [], ◌∷◌, Bool, false, ◌&&◌, nat_le, length, if◌then◌else◌, Option, Some, None, option_map, codes}
+use Rattle.std.specs.Prelude.{ℕ, ◌==◌, List, [], ◌∷◌, Bool, true, false, ◌&&◌, nat_le, length, if◌then◌else◌, Option, Some, None, option_map, codes}
 use Rattle.std.specs.List.{list_any, before_first, after_first}
 use Rattle.std.specs.Option.{option_map_or}
 use Rattle.std.specs.Str.{bytes_eq}
@@ -7,9 +7,10 @@ use Rattle.graph_text.specs.Reading.{are_digits, number_of}
 use Rattle.flowpaths_cli.specs.declared.options.Valued.{Valued}
 use Rattle.flowpaths_cli.specs.declared.options.Valued.TheVariants.{Nodes}
 
--- An item: the largest number of tokens of a search, or the name of the input.
+-- An item: the largest number of tokens of a search, that safe runs are to be listed, or the name of the input.
 pub data Item : Type 0 where
   limit : ℕ → Item
+  safely : Item
   input : List ℕ → Item
 
 -- the largest number of tokens that the words may name
@@ -48,14 +49,21 @@ is_equals b = b == 61
 abbrev pub option_before : List ℕ → Option Valued
 option_before word = if list_any is_equals word then option_of (before_first is_equals word) else None
 
--- the item that a word is by itself: an option, `=` and its value, or a name
+-- the item that a word is by itself: an option without a value, an option, `=` and its value, or a name
 abbrev pub item_of : List ℕ → Option Item
-item_of word = option_map_or (λ option. valued_item option (after_first is_equals word)) (option_before word) (named_item word)
+item_of word =
+    if bytes_eq word (codes "--safe") then Some safely
+    else option_map_or (λ option. valued_item option (after_first is_equals word)) (option_before word) (named_item word)
 
 -- the number of tokens that an item is
 abbrev pub limit_of : Item → Option ℕ
 limit_of (limit n) = Some n
 limit_of item = None
+
+-- that safe runs are to be listed, where an item is that
+abbrev pub flag_of : Item → Option Bool
+flag_of safely = Some true
+flag_of item = None
 
 -- the name that an item is
 abbrev pub input_of : Item → Option (List ℕ)

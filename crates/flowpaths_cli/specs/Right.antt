@@ -1,5 +1,5 @@
 -- When a report is right for a block, and the status of a run.
-use Rattle.std.specs.Prelude.{◌≤◌, ◌<◌, ◌≡◌, ◌+◌, ℕ, List, length, Bool, true, false, if◌then◌else◌, Option, None, Some, is_some, Result, Ok, Err, IsSomeAnd, IsTrue}
+use Rattle.std.specs.Prelude.{◌≤◌, ◌<◌, ◌≡◌, ◌+◌, ℕ, List, length, Bool, true, false, if◌then◌else◌, Option, None, Some, is_some, IfSome, Result, Ok, Err, IsSomeAnd, IsTrue}
 use Rattle.std.specs.List.{list_any}
 use Rattle.decomposition.specs.declared.Mode.{Mode}
 use Rattle.decomposition.specs.declared.Mode.TheVariants.{Exact, Interval, Abs}
@@ -7,6 +7,7 @@ use Rattle.decomposition.specs.Graph.{edge_count}
 use Rattle.decomposition.specs.Instance.{Instance, Meets, objective, lower_bound, IsOptimal, IsLowerBound}
 use Rattle.decomposition.specs.Width.{IsAntichain, IsWidth}
 use Rattle.decomposition.specs.FirstAnswer.{IsFirstAnswer}
+use Rattle.decomposition.specs.SafeRuns.{IsSafe, AreMaximal}
 use Rattle.decomposition.specs.Tokens.{rule_list}
 use Rattle.decomposition.specs.Searches.{EndsSpent}
 use Rattle.decomposition.specs.Certificates.{decision_below, IsBoundingTree}
@@ -76,9 +77,13 @@ AreAtMostFirst Exact i paths = (first : List (List ℕ × ℕ)) → IsFirstAnswe
 AreAtMostFirst Interval i paths = Unit {0}
 AreAtMostFirst (Abs k) i paths = Unit {0}
 
+-- the runs that are listed: there where they were asked for, and then the rising list of the maximal safe runs
+abbrev pub AreListed : Settings → Instance → Option (List (List ℕ)) → Type 0
+AreListed set i runs = (is_some runs ≡ set.safe) × IfSome runs (AreMaximal (IsSafe i))
+
 -- A solved report is right and true for an instance: the paths are an answer that meets the model, `upper` is their value, and they are no more
 -- than those of the first answer; `lower` is at least the width, its certificate shows it, and no answer is below it; the paths of an optimal
--- one are best, and of one that is not decided the trail shows the whole search that was spent.
+-- one are best, and of one that is not decided the trail shows the whole search that was spent; the runs listed are the maximal safe ones.
 pub record SolvedRight (set : Settings) (i : Instance) (s : Solved) : Type 0 where
   pub meets : Meets set.mode i s.paths
   pub upper_is : s.upper ≡ Some (objective set.mode i s.paths)
@@ -89,16 +94,15 @@ pub record SolvedRight (set : Settings) (i : Instance) (s : Solved) : Type 0 whe
   pub wide : (es : List ℕ) → IsAntichain i es → length es ≤ lower
   pub cert : IsCertFor set.nodes set.mode i lower s.cert
   pub mark : IsMarkFor set.nodes set.mode i lower (objective set.mode i s.paths) s.mark s.trail
-  pub safe : is_some s.safe ≡ set.safe
+  pub safe : AreListed set i s.safe
   pub bound : IsLowerBound set.mode i lower
   pub optimal : s.mark ≡ Optimal → IsOptimal set.mode i s.paths
 
--- the settings that are built: the exact model, a number of tokens in its range, and no list of safe runs
+-- the settings that are built: the exact model, and a number of tokens in its range
 pub record AreBuilt (s : Settings) : Type 0 where
   pub exact : s.mode ≡ Exact
   pub least : 1 ≤ s.nodes
   pub most : s.nodes ≤ most_nodes
-  pub plain : s.safe ≡ false
 
 -- a body is right for what its block is read as: the same refusal, or a right solved report
 abbrev pub BodyRight : Settings → Result RawGraph Refusal → Body → Type 0

@@ -1,5 +1,5 @@
 -- The settings that words give behind others, by what those said.
-use Rattle.std.specs.Prelude.{List, [], ◌∷◌, ◌++◌, Option, Some, None, option_copied, option_and_then, map, ℕ}
+use Rattle.std.specs.Prelude.{cond, true, List, [], ◌∷◌, ◌++◌, Option, Some, None, option_copied, option_and_then, map, ℕ}
 use Rattle.std.specs.Option.{option_to_list}
 use Rattle.flowpaths_cli.specs.declared.said.Next.{Next}
 use Rattle.flowpaths_cli.specs.declared.said.Next.TheVariants.{Any, Value, Name}
@@ -19,6 +19,7 @@ items_next Name words = Some (map Item.input words)
 abbrev pub said_before : Said → Given → Given
 said_before said g = record {
   limits = option_to_list said.nodes ++ g.limits;
+  flags = cond said.safe (true ∷ []) [] ++ g.flags;
   inputs = option_to_list (option_copied said.file) ++ g.inputs;
 }
 

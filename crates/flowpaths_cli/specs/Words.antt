@@ -1,11 +1,11 @@
--- What the words of the command line name: the largest number of tokens of a search, and the input.
+-- What the words of the command line name: the largest number of tokens of a search, whether safe runs are listed, and the input.
 use Rattle.std.specs.Prelude.{ℕ, List, [], ◌∷◌, Bool, true, false, ◌&&◌, slice_index_or, if◌then◌else◌, Option, Some, None, option_and_then, map, filter_map, String, string_bytes}
 use Rattle.std.specs.Option.{option_map_or}
 use Rattle.std.specs.Str.{bytes_eq}
 use Rattle.std.specs.declared.alloc.Global.{Global}
 use Rattle.decomposition.specs.declared.Mode.TheVariants.{Exact}
 use Rattle.flowpaths_cli.specs.declared.settings.Settings.{Settings}
-use Rattle.flowpaths_cli.specs.Items.{Item, option_of, valued_item, item_of, limit_of, input_of}
+use Rattle.flowpaths_cli.specs.Items.{Item, option_of, valued_item, item_of, limit_of, flag_of, input_of}
 
 -- the words as bytes
 abbrev pub texts : List (String Global) → List (List ℕ)
@@ -37,13 +37,14 @@ items_of (word ∷ next ∷ words) =
     if bytes_eq word two_dashes then Some (map Item.input (next ∷ words))
     else option_map_or (λ option. with_item (valued_item option next) after) (option_of word) (with_item (item_of word) rest)
 
--- What items give, kind by kind: numbers of tokens, and names.
+-- What items give, kind by kind: numbers of tokens, that safe runs are to be listed, and names.
 pub record Given : Type 0 where
   pub limits : List ℕ
+  pub flags : List Bool
   pub inputs : List (List ℕ)
 
 abbrev pub given : List Item → Given
-given items = record { limits = filter_map limit_of items; inputs = filter_map input_of items }
+given items = record { limits = filter_map limit_of items; flags = filter_map flag_of items; inputs = filter_map input_of items }
 
 -- whether there is none, or one alone
 abbrev pub is_at_most_one : {X : Type 0} → List X → Bool
@@ -61,14 +62,14 @@ default_nodes = 20000
 
 -- whether each kind stands at most once
 abbrev pub are_single : Given → Bool
-are_single g = is_at_most_one g.limits && is_at_most_one g.inputs
+are_single g = is_at_most_one g.limits && (is_at_most_one g.flags && is_at_most_one g.inputs)
 
 -- the settings by the first of each kind
 abbrev pub settings_at : Given → Settings
 settings_at g = record {
   mode = Exact;
   nodes = slice_index_or g.limits 0 default_nodes;
-  safe = false;
+  safe = slice_index_or g.flags 0 false;
   demo = None;
   file = slice_index_or g.inputs 0 dash;
 }

@@ -1,7 +1,7 @@
 //! The words at worked examples, which the check computes.
 ghost use Rattle.std.specs.Prelude.{◌≡◌, List, [], ◌∷◌, codes, IsNone};
 ghost use Rattle.flowpaths_cli.specs.Words.{settings_of};
-ghost use Rattle.flowpaths_cli.specs.Examples.{naming};
+ghost use Rattle.flowpaths_cli.specs.Examples.{naming, naming_safely};
 
 /// Words that are taken, and the settings that they give.
 pub fn words_are_taken()
@@ -14,6 +14,8 @@ pub fn words_are_taken()
     ensures zeros { settings_of (codes "--nodes=0000000007" ∷ codes "-" ∷ []) ≡ naming 7 (codes "-") }
     ensures greatest { settings_of (codes "--nodes" ∷ codes "50000" ∷ []) ≡ naming 50000 (codes "-") }
     ensures behind { settings_of (codes "--nodes" ∷ codes "1" ∷ codes "--" ∷ codes "--nodes" ∷ []) ≡ naming 1 (codes "--nodes") }
+    ensures safe { settings_of (codes "--safe" ∷ []) ≡ naming_safely 20000 (codes "-") }
+    ensures both { settings_of (codes "x" ∷ codes "--safe" ∷ codes "--nodes=7" ∷ []) ≡ naming_safely 7 (codes "x") }
     ensures twice { settings_of (codes "--" ∷ codes "--" ∷ []) ≡ naming 20000 (codes "--") }
 {}
 
@@ -21,6 +23,8 @@ pub fn words_are_taken()
 pub fn words_are_refused()
     ensures two_files { IsNone (settings_of (codes "x" ∷ codes "--" ∷ codes "y" ∷ [])) }
     ensures two_numbers { IsNone (settings_of (codes "--nodes" ∷ codes "7" ∷ codes "--nodes=7" ∷ [])) }
+    ensures two_flags { IsNone (settings_of (codes "--safe" ∷ codes "--safe" ∷ [])) }
+    ensures a_value { IsNone (settings_of (codes "--safe=1" ∷ [])) }
     ensures last { IsNone (settings_of (codes "x" ∷ codes "--nodes" ∷ [])) }
     ensures no_value { IsNone (settings_of (codes "--nodes" ∷ codes "--" ∷ codes "7" ∷ [])) }
     ensures no_digits { IsNone (settings_of (codes "--nodes=" ∷ [])) }

@@ -26,6 +26,8 @@ pub struct Said<'a> {
     pub next: Next,
     /// The most tokens of a search.
     pub nodes: Option<u32>,
+    /// Whether safe runs are listed.
+    pub safe: bool,
     /// The name of the input.
     pub file: Option<&'a str>,
 }
@@ -38,6 +40,7 @@ impl<'a> Said<'a> {
         let mut said = Said {
             next: Next::Any,
             nodes: None,
+            safe: false,
             file: None,
         };
         for word in words {
@@ -82,7 +85,9 @@ impl<'a> Said<'a> {
         requires { self.next ≡ Next.Any }
         ensures { (words : List (List ℕ)) → settings_after result words ≡ settings_with self.entry (with_item (item_of word.now) (items_of words)) }
     {
-        if let Some((option, value)) = pair_in(word) {
+        if word == "--safe" {
+            self.with_safe()
+        } else if let Some((option, value)) = pair_in(word) {
             self.with_value(option, value)
         } else if is_dashed(word) {
             None
@@ -110,6 +115,20 @@ impl<'a> Said<'a> {
         Some(Said {
             next: Next::Any,
             nodes: Some(nodes),
+            ..self
+        })
+    }
+
+    /// With safe runs to be listed.
+    fn with_safe(self) -> Option<Said<'a>>
+        ensures { (words : List (List ℕ)) → settings_after result words ≡ settings_with self.entry (with_item (Some Item.safely) (items_of words)) }
+    {
+        if self.safe {
+            return None;
+        }
+        Some(Said {
+            next: Next::Any,
+            safe: true,
             ..self
         })
     }

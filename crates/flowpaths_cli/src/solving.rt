@@ -1,29 +1,31 @@
 //! What a block is answered.
-ghost use Rattle.std.specs.Prelude.{◌≡◌, ℕ, ◌≤◌, ◌^◌, ◌<◌, [], length, slice_index, nat_le, nat_lt, All, map, IfOk, IsTrue};
+ghost use Rattle.std.specs.Prelude.{◌≡◌, ℕ, ◌≤◌, ◌^◌, ◌<◌, [], length, slice_index, nat_le, nat_lt, All, map, is_some, IfOk, IfSome, IsTrue};
 ghost use Rattle.std.specs.List.{list_all};
 ghost use Rattle.decomposition.specs.declared.Mode.TheVariants.{Exact};
 ghost use Rattle.decomposition.specs.Answer.{is_ordered, IsInReportOrder};
 ghost use Rattle.decomposition.specs.Flow.{IsBalanced, Decomposes};
 ghost use Rattle.decomposition.specs.Graph.{Graph, edge_count, is_run};
 ghost use Rattle.decomposition.specs.Instance.{Instance, range_at, greatest_hi};
+ghost use Rattle.decomposition.specs.SafeRuns.{IsSafeFor, AreMaximal};
 ghost use Rattle.decomposition.specs.Width.{IsAntichain, IsAntichainOf, IsWidth, IsWidthOf};
 ghost use Rattle.graph_text.specs.Accepted.{IsAccepted};
 ghost use Rattle.graph_text.specs.Reading.{instance_of};
-ghost use Rattle.path_report.specs.Laws.{AreRisingEdges, IsCertOf, IsFoundIn};
+ghost use Rattle.path_report.specs.Laws.{AreRisingEdges, AreRisingRuns, IsCertOf, IsFoundIn};
 ghost use Rattle.path_report.specs.ReportText.{is_regular_solved};
 ghost use Rattle.subpath_rules.specs.Rules.{AreRulesOf};
 ghost use Rattle.flowpaths_cli.specs.declared.settings.Settings.{Settings as Given};
-ghost use Rattle.flowpaths_cli.specs.Right.{AreBuilt, SolvedRight, IsCertFor};
+ghost use Rattle.flowpaths_cli.specs.Right.{AreBuilt, AreListed, SolvedRight, IsCertFor};
 ghost use Rattle.flowpaths_cli.specs.Searched.{IsMergedWidest, IsSolvedBy};
 
 use crate::searching::{Ending, Searched, search_fewest};
 use crate::settings::Settings;
-use dag_net::{Answer, Ids, Net, Ranges};
+use dag_net::{Answer, IdLists, Ids, Net, Ranges};
 use flow_models::Problem;
 use graph_text::RawGraph;
 use greedy_paths::{GreedyFault, decompose};
 use path_cover::{Width, width};
 use path_report::{Cert, Mark, Solved};
+use safe_paths::maximal_safe;
 use std::alloc::{AllocError, Global};
 use subpath_rules::{RuleFault, Rules};
 
@@ -52,13 +54,14 @@ pub fn solve_block(
         antichain.len(),
         first,
     )?;
-    Ok(solved_by(paths, antichain, ending))
+    let safe = safe_runs(alloc, &graph.net, settings.safe, &flow, &paths)?;
+    Ok(solved_by(paths, antichain, ending, safe))
 }
 
 /// What is said of the paths, by an antichain of as many edges as the width and by why the searches ended.
-fn solved_by(paths: Answer, antichain: Ids, ending: Ending) -> Solved
-    ensures right { (s : Given) (i : Instance) → AreBuilt s → IsSolvedBy s.nodes i paths antichain ending → SolvedRight s i result }
-    ensures found { (nodes : ℕ) (i : Instance) → IsSolvedBy nodes i paths antichain ending → IsFoundIn i.graph result }
+fn solved_by(paths: Answer, antichain: Ids, ending: Ending, safe: Option<IdLists>) -> Solved
+    ensures right { (s : Given) (i : Instance) → AreBuilt s → AreListed s i safe → IsSolvedBy s.nodes i paths antichain ending → SolvedRight s i result }
+    ensures found { (nodes : ℕ) (i : Instance) → IsSolvedBy nodes i paths antichain ending → IfSome safe (AreRisingRuns i.graph) → IsFoundIn i.graph result }
 {
     let upper = paths.len() as u64;
     let width = antichain.len() as u64;
@@ -70,7 +73,7 @@ fn solved_by(paths: Answer, antichain: Ids, ending: Ending) -> Solved
             paths,
             cert: cert_of(antichain),
             trail: None,
-            safe: None,
+            safe,
         },
         Ending::Refuted(tree) => Solved {
             mark: Mark::Optimal,
@@ -79,7 +82,7 @@ fn solved_by(paths: Answer, antichain: Ids, ending: Ending) -> Solved
             paths,
             cert: Cert::Tree(tree),
             trail: None,
-            safe: None,
+            safe,
         },
         Ending::Spent(trail) => Solved {
             mark: Mark::Bounds,
@@ -88,7 +91,7 @@ fn solved_by(paths: Answer, antichain: Ids, ending: Ending) -> Solved
             paths,
             cert: cert_of(antichain),
             trail: Some(trail),
-            safe: None,
+            safe,
         },
     }
 }
@@ -103,6 +106,29 @@ fn cert_of(antichain: Ids) -> Cert
     } else {
         Cert::Wide(antichain)
     }
+}
+
+/// The maximal safe runs of a flow, where they are asked for.
+fn safe_runs(
+    alloc: Global,
+    net: &Net,
+    asked: bool,
+    flow: &[u64],
+    paths: &Answer,
+) -> Result<Option<IdLists>, AllocError>
+    requires one_each { length flow.now ≡ edge_count net.now }
+    requires small { All (λ w. w ≤ 1000000000000) flow.now }
+    requires made { Decomposes net.now (slice_index flow.now) paths.now }
+    ensures asked { IfOk result (λ runs. is_some runs ≡ asked) }
+    ensures maximal { IfOk result (λ runs. IfSome runs (AreMaximal (IsSafeFor net.now (slice_index flow.now)))) }
+    ensures few { IfOk result (λ runs. IfSome runs (λ listed. length listed < 2 ^ 64)) }
+{
+    if !asked {
+        return Ok(None);
+    }
+    let runs = maximal_safe(alloc, net, flow, paths)?;
+    prove!(runs.len() <= usize::MAX);
+    Ok(Some(runs))
 }
 
 /// The problem of a graph.

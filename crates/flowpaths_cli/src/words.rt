@@ -62,7 +62,7 @@ fn settings_by(alloc: Global, said: Said<'_>) -> Result<Settings, WordFault>
     Ok(Settings {
         mode: Mode::Exact,
         nodes: said.nodes.unwrap_or(DEFAULT_NODES),
-        safe: false,
+        safe: said.safe,
         demo: None,
         file,
     })

@@ -1,0 +1,11 @@
+pub mod Leaving
+pub mod OutSums
+pub mod Edges
+pub mod SafeSums
+pub mod Greatest
+pub mod Parts
+pub mod Bounds
+pub mod Growing
+pub mod Finding
+pub mod Inserting
+pub mod Decomposed

@@ -1,0 +1,4 @@
+pub mod Sums
+pub mod VertexFlows
+pub mod Windows
+pub mod Places
