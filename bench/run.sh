@@ -79,4 +79,6 @@ graphs=$((1000 / divisor))
 python3 "$here/generate.py" large "$graphs" >"$folder/input"
 row "$graphs large graphs" "$folder/input" "$graphs" 0,1
 whole "$graphs"
-python3 "$here/check_sums.py" "$folder/input" "$folder/report"
+python3 "$here/generate.py" large 20 >"$folder/input"
+python3 "$here/measure.py" 0,1 "$folder/input" "$folder/report" "$program" --nodes 200 >"$folder/taken"
+python3 "$here/check_sums.py" "$folder/input" "$folder/report" 200
