@@ -8,7 +8,7 @@ weights of the paths through an edge sum to its weight, that there is at most on
 `upper` is their number, and that they stand by falling weight, those of equal weight by rising edge list; that of the edges of a
 wide certificate no two lie on one path and `lower` is their number; that the tokens of a tree refute one path fewer; that the mark is
 `optimal` exactly where both bounds are equal; and that else the trail is the rule list of one path fewer, with NODES tokens (20,000 where
-it is left out), and leaves a box at which some token is legal.
+it is left out), and leaves a box at which some token is legal. Where safe runs are listed, they are the runs of positive excess that no other such run contains.
 """
 import sys
 
@@ -69,11 +69,14 @@ def first_fault(number, name, edges, report, nodes):
     if report[2] != (b"mark optimal" if lower == len(paths) else b"mark bounds") or lower > len(paths):
         return "the mark is another"
     shown = report[5 + len(paths) : -1]
+    listed = next((k for k, line in enumerate(shown) if line.startswith(b"safe ")), len(shown))
+    shown, runs = shown[:listed], shown[listed:]
     trail = next((k for k, line in enumerate(shown) if line.startswith(b"trail ")), len(shown))
     return (
         first_path_fault(edges, report[5 : 5 + len(paths)])
         or first_cert_fault(edges, lower, shown[:trail], nodes)
         or first_trail_fault(edges, lower, len(paths), shown[trail:], nodes)
+        or first_safe_fault(edges, runs)
     )
 
 
@@ -112,6 +115,25 @@ def first_trail_fault(edges, lower, upper, lines, nodes):
     if illegal is not None or not by_rule:
         return "the trail is not the rule list"
     return None if boxes and decision.rule_token(boxes[-1]) else "no token is legal after the trail"
+
+
+def first_safe_fault(edges, lines):
+    """What is wrong with a list of safe runs: it has all runs of positive excess that no other one contains, by rising edge list."""
+    if not lines:
+        return None
+    ends, flows, out = list(edges), list(edges.values()), {}
+    for e, (tail, _) in enumerate(ends):
+        out.setdefault(tail, []).append(e)
+    safe, left = set(), [((e,), flow) for e, flow in enumerate(flows) if flow > 0]
+    while left:
+        run, excess = left.pop()
+        safe.add(run)
+        following = out.get(ends[run[-1]][1], [])
+        total = sum(flows[e] for e in following)
+        left += [(run + (e,), excess + flows[e] - total) for e in following if excess + flows[e] > total]
+    parts = {run[k:n] for run in safe for k in range(len(run)) for n in range(k + 1, len(run) + 1) if n - k < len(run)}
+    wanted = [b"run " + b" ".join([ends[run[0]][0]] + [ends[e][1] for e in run]) for run in sorted(safe - parts)]
+    return None if lines == [b"safe %d" % len(wanted)] + wanted else "the safe runs are others"
 
 
 def first_antichain_fault(edges, lines):
