@@ -8,7 +8,7 @@ use Rattle.decomposition.specs.Instance.{Instance, IsInstance, lower_bound}
 use Rattle.decomposition.specs.SafeRuns.{IsSafe, IsSafeFor, IsMaximal, AreMaximal}
 use Rattle.decomposition.proofs.Excess.{safe_runs_agree}
 use Rattle.path_report.specs.Laws.{AreRisingRuns}
-use Rattle.flowpaths_cli.proofs.Decomposed.{lows, lows-at}
+use Rattle.flowpaths_cli.proofs.Bounded.{lows, lows-at}
 
 -- equal properties have the same maximal runs
 maximal-same : (P Q : List ℕ → Type 0) → ((r : List ℕ) → P r ↔ Q r) → (r : List ℕ) → IsMaximal P r → IsMaximal Q r

@@ -1,115 +1,136 @@
--- What was found for an exact graph is right for it: by the width, by a refutation, or by bounds.
-use Rattle.std.proofs.Common.{◌≡◌, ℕ, ◌<◌, ◌≤◌, ◌^◌, List, Option, Some, None, length, refl, sym, ap, subst, arith}
-use Rattle.std.specs.Prelude.{IfSome}
-use Rattle.decomposition.specs.declared.Mode.TheVariants.{Exact}
+-- What the searches for few paths found is right of the graph, and speaks of it.
+use Rattle.std.proofs.Common.{◌≡◌, ℕ, ◌<◌, ◌^◌, List, [], Option, Some, None, false, ◌&&◌, nat_le, length, refl, sym, subst, ◌∙◌, arith, leb-true}
+use Rattle.std.specs.Prelude.{All, IfSome}
+use Rattle.std.proofs.lemmas.Bool.{and_parts}
+use Rattle.decomposition.specs.declared.Mode.{Mode}
+use Rattle.decomposition.specs.declared.Mode.TheVariants.{Interval}
+use Rattle.decomposition.specs.declared.Decision.{Decision}
+use Rattle.decomposition.specs.Answer.{IsAnswer, IsInReportOrder}
+use Rattle.decomposition.specs.Certificates.{IsBoundingTree, decision_below, decision_at_all}
+use Rattle.decomposition.specs.Graph.{Graph, is_path}
 use Rattle.decomposition.specs.Instance.{Instance, IsLowerBound}
-use Rattle.decomposition.specs.Width.{IsWidth, IsAntichain}
-use Rattle.decomposition.specs.Certificates.{IsBoundingTree}
-use Rattle.decomposition.specs.Tokens.{rule_list}
 use Rattle.decomposition.specs.Searches.{EndsSpent}
-use Rattle.decomposition.proofs.Antichains.{antichains_bound}
-use Rattle.decomposition.proofs.Root.{trees_bound}
-use Rattle.path_report.specs.Laws.{IsFoundIn, IsCertOf, HasTrail, AreRisingRuns}
+use Rattle.decomposition.specs.Tokens.{IsRefutation, rule_list}
+use Rattle.decomposition.proofs.Crowds.{crowds_refute}
+use Rattle.decomposition.proofs.FewPaths.{trees_refute_all}
+use Rattle.decomposition.proofs.Root.{all-place, trees_bound}
+use Rattle.path_report.specs.Laws.{AreRisingRuns, HasTrail, IsCertOf, IsEntryOf, IsFoundIn, IsSmall}
 use Rattle.path_report.specs.declared.report.Cert.{Cert}
-use Rattle.path_report.specs.declared.report.Cert.TheVariants.{Tree}
+use Rattle.path_report.specs.declared.report.Cert.TheVariants.{Tree, Crowd}
 use Rattle.path_report.specs.declared.report.Mark.{Mark}
-use Rattle.path_report.specs.declared.report.Mark.TheVariants.{Optimal, Bounds}
-use Rattle.path_report.specs.declared.report.Solved.{Solved}
+use Rattle.path_report.specs.declared.report.Mark.TheVariants.{Optimal, Infeasible, Bounds}
 use Rattle.path_report.specs.declared.report.Trail.{Trail}
+use Rattle.flowpaths_cli.specs.declared.counting.Ending.TheVariants.{Width, Refuted, Spent}
+use Rattle.flowpaths_cli.specs.declared.counting.Finding.TheVariants.{Known, Crowded, Never, Open}
 use Rattle.flowpaths_cli.specs.declared.settings.Settings.{Settings}
-use Rattle.flowpaths_cli.specs.declared.searching.Ending.{Ending}
-use Rattle.flowpaths_cli.specs.declared.searching.Ending.TheVariants.{Width, Refuted, Spent}
-use Rattle.flowpaths_cli.specs.Right.{SolvedRight, AreBuilt, AreListed, AreAtMostFirst, IsCertFor, IsMarkFor, IsTrailFor}
-use Rattle.flowpaths_cli.specs.Searched.{IsKnown, IsSolvedBy}
-use Rattle.flowpaths_cli.proofs.Decomposed.{entries_fit}
+use Rattle.flowpaths_cli.specs.Right.{AreListed, CountsPaths, IsCertFor, IsTrailFor, SolvedRight, decision_between, is_cut}
+use Rattle.flowpaths_cli.specs.Searched.{IsSolvedBy, IsSpentBy}
+use Rattle.flowpaths_cli.proofs.CountedRight.{said, all_same, between_same, cert_for, counted_bounds, counted_none, counted_optimal, no_cut, right_for, width_bounds, with_ranges, one_width}
 
--- a solved report on these paths
-abbrev pub found : Mark → ℕ → ℕ → List (List ℕ × ℕ) → Cert → Option Trail → Option (List (List ℕ)) → Solved
-found mark lower upper a cert trail runs = record { mark = mark; lower = Some lower; upper = Some upper; paths = a; cert = cert; trail = trail; safe = runs }
-
--- the width bounds the number of paths of everything that meets
-width_bounds : (i : Instance) (es : List ℕ) → IsAntichain i es → IsLowerBound Exact i (length es)
-width_bounds i es chain b ok = antichains_bound i es b chain ok.0 ok.2
-
--- an instance has one width
-one_width : (i : Instance) (m n : ℕ) → IsWidth i m → IsWidth i n → m ≡ n
-one_width i m n a b =
-    let up = b.greatest a.reached.0 a.reached.1 in
-    let down = a.greatest b.reached.0 b.reached.1 in
-    omega (arith, up, down, a.reached.2, b.reached.2)
-
--- what is right of each report on an answer, whatever shows its lower bound
-right_of : (s : Settings) (i : Instance) (a : List (List ℕ × ℕ)) (es : List ℕ) (mark : Mark) (lower upper : ℕ) (cert : Cert) (trail : Option Trail) (runs : Option (List (List ℕ)))
-    → AreBuilt s → AreListed s i runs → IsKnown i a → AreAtMostFirst Exact i a → IsWidth i (length es) → upper ≡ length a → length es ≤ lower → IsLowerBound Exact i lower
-    → IsCertFor s.nodes Exact i lower cert → IsMarkFor s.nodes Exact i lower (length a) mark trail → (mark ≡ Optimal → lower ≡ length a)
-    → SolvedRight s i (found mark lower upper a cert trail runs)
-right_of s i a es mark lower upper cert trail runs built listed known first wide counted above bound shown is_mark best =
-    let r = found mark lower upper a cert trail runs in
-    let here : SolvedRight (record s { mode = Exact }) i r = record {
-      meets = known.meets;
-      upper_is = ap Some counted;
-      few = omega (arith, known.few);
-      first = first;
-      lower = lower;
-      lower_is = refl;
-      wide = λ fs chain. omega (arith, wide.greatest fs chain, above);
-      cert = shown;
-      mark = is_mark;
-      safe = listed;
-      bound = bound;
-      optimal = λ is. record { meets = known.meets; least = λ b ok. omega (arith, best is, bound b ok) };
-    } in
-    subst (λ m. SolvedRight (record s { mode = m }) i r) (sym built.exact) here
+-- a search that was spent shows a trail for its decision
+pub trail_for : (nodes : ℕ) (mode : Mode) (i : Instance) (d : Decision) (lower : ℕ) (upper : Option ℕ) (trail : Trail) → IsSpentBy nodes i d trail → d ≡ decision_between mode i lower upper → IsTrailFor nodes mode i lower upper trail
+trail_for nodes mode i d lower upper trail spent is = record {
+  decision = spent.decision ∙ is;
+  tokens = subst (λ e. trail.tokens ≡ rule_list i e nodes) (sym spent.decision) spent.tokens;
+  spent = subst (λ e. EndsSpent i e nodes) (sym spent.decision) spent.spent;
+}
 
 -- there are as many paths as the width
-pub right_by_width : (s : Settings) (i : Instance) (a : List (List ℕ × ℕ)) (es : List ℕ) (lower upper : ℕ) (cert : Cert) (runs : Option (List (List ℕ))) → AreBuilt s → AreListed s i runs → IsSolvedBy s.nodes i a es Width
-    → upper ≡ length a → lower ≡ length es → IsCertFor s.nodes Exact i (length es) cert → SolvedRight s i (found Optimal lower upper a cert None runs)
-right_by_width s i a es lower upper cert runs built listed by counted many shown =
+pub right_by_width : (s : Settings) (i : Instance) (a : List (List ℕ × ℕ)) (es : List ℕ) (lower upper : ℕ) (cert : Cert) (runs : Option (List (List ℕ))) → CountsPaths s.mode → AreListed s i runs → IsSolvedBy s.nodes s.mode i es (Known a Width)
+    → upper ≡ length a → lower ≡ length es → IsCertFor s.nodes Interval i (length es) cert → is_cut cert ≡ false → SolvedRight s i (said Optimal (Some lower) (Some upper) a cert None runs)
+right_by_width s i a es lower upper cert runs counts listed by counted many shown other =
+    let known = by.finds.0 in
     let bound = width_bounds i es by.antichain in
-    let equal : lower ≡ length a = omega (arith, many, by.ends, bound a by.known.meets) in
-    right_of s i a es Optimal lower upper cert None runs built listed by.known by.first by.wide counted (omega (arith, many))
-    (subst (IsLowerBound Exact i) (sym many) bound) (subst (λ n. IsCertFor s.nodes Exact i n cert) (sym many) shown) (equal, refl) (λ _. equal)
+    let equal : lower ≡ upper = omega (arith, counted, many, by.finds.2, bound a known.meets) in
+    let facts = counted_optimal s.mode s.nodes i a es lower cert runs known by.finds.1 by.first by.known by.wide (omega (arith, many)) (equal ∙ counted)
+    (subst (IsLowerBound Interval i) (sym many) bound) (cert_for s.nodes s.mode i lower cert counts (subst (λ n. IsCertFor s.nodes Interval i n cert) (sym many) shown)) (no_cut s.mode i cert other by.within) in
+    subst (λ n. SolvedRight s i (said Optimal (Some lower) (Some n) a cert None runs)) equal (right_for s.mode s i _ counts facts listed)
 
 -- one path fewer is refuted
-pub right_by_tree : (s : Settings) (i : Instance) (a : List (List ℕ × ℕ)) (es : List ℕ) (upper : ℕ) (tree : Trail) (runs : Option (List (List ℕ))) → AreBuilt s → AreListed s i runs → IsSolvedBy s.nodes i a es (Refuted tree)
-    → upper ≡ length a → SolvedRight s i (found Optimal upper upper a (Tree tree) None runs)
-right_by_tree s i a es upper tree runs built listed by counted =
-    let more : length es < length a = by.ends.0 in
-    let refuted = by.ends.1 in
-    let bounding : IsBoundingTree Exact i (length a) tree.tokens = record { positive = omega (arith, more); reach = omega (arith, by.known.few); refuted = refuted.refuted } in
-    let shown : IsCertFor s.nodes Exact i (length a) (Tree tree) = record {
+pub right_by_tree : (s : Settings) (i : Instance) (a : List (List ℕ × ℕ)) (es : List ℕ) (upper : ℕ) (tree : Trail) (runs : Option (List (List ℕ))) → CountsPaths s.mode → AreListed s i runs → IsSolvedBy s.nodes s.mode i es (Known a (Refuted tree))
+    → upper ≡ length a → SolvedRight s i (said Optimal (Some upper) (Some upper) a (Tree tree) None runs)
+right_by_tree s i a es upper tree runs counts listed by counted =
+    let known = by.finds.0 in
+    let more : length es < length a = by.finds.2.0 in
+    let refuted = by.finds.2.1 in
+    let bounding : IsBoundingTree Interval i (length a) tree.tokens = record { positive = omega (arith, more); reach = by.finds.1; refuted = refuted.refuted } in
+    let shown : IsCertFor s.nodes Interval i (length a) (Tree tree) = record {
       decision = refuted.decision;
       bounding = bounding;
       few = refuted.few;
-      not_width = λ wide. omega (arith, more, one_width i (length a) (length es) wide by.wide);
+      not_width = λ _ wide. omega (arith, more, one_width i (length a) (length es) wide by.wide);
     } in
-    right_of s i a es Optimal upper upper (Tree tree) None runs built listed by.known by.first by.wide counted (omega (arith, more, counted))
-    (subst (IsLowerBound Exact i) (sym counted) (trees_bound Exact i (length a) tree.tokens by.valid bounding))
-    (subst (λ n. IsCertFor s.nodes Exact i n (Tree tree)) (sym counted) shown) (counted, refl) (λ _. counted)
+    let facts = counted_optimal s.mode s.nodes i a es upper (Tree tree) runs known by.finds.1 by.first by.known by.wide (omega (arith, more, counted)) counted
+    (subst (IsLowerBound Interval i) (sym counted) (trees_bound Interval i (length a) tree.tokens (with_ranges s.mode i by.valid) bounding))
+    (cert_for s.nodes s.mode i upper (Tree tree) counts (subst (λ n. IsCertFor s.nodes Interval i n (Tree tree)) (sym counted) shown)) (no_cut s.mode i (Tree tree) refl by.within) in
+    right_for s.mode s i _ counts facts listed
 
 -- the search for one path fewer was spent
-pub right_by_trail : (s : Settings) (i : Instance) (a : List (List ℕ × ℕ)) (es : List ℕ) (lower upper : ℕ) (cert : Cert) (trail : Trail) (runs : Option (List (List ℕ))) → AreBuilt s → AreListed s i runs → IsSolvedBy s.nodes i a es (Spent trail)
-    → upper ≡ length a → lower ≡ length es → IsCertFor s.nodes Exact i (length es) cert → SolvedRight s i (found Bounds lower upper a cert (Some trail) runs)
-right_by_trail s i a es lower upper cert trail runs built listed by counted many shown =
-    let more : length es < length a = by.ends.0 in
-    let spent = by.ends.1 in
-    let shows : IsTrailFor s.nodes Exact i (length a) trail = record {
-      decision = spent.decision;
-      tokens = subst (λ d. trail.tokens ≡ rule_list i d s.nodes) (sym spent.decision) spent.tokens;
-      spent = subst (λ d. EndsSpent i d s.nodes) (sym spent.decision) spent.spent;
-    } in
-    right_of s i a es Bounds lower upper cert (Some trail) runs built listed by.known by.first by.wide counted (omega (arith, many))
-    (subst (IsLowerBound Exact i) (sym many) (width_bounds i es by.antichain))
-    (subst (λ n. IsCertFor s.nodes Exact i n cert) (sym many) shown) (omega (arith, many, more), shows) (λ is. absurd (let no' : ⊥ = cc in no'))
+pub right_by_trail : (s : Settings) (i : Instance) (a : List (List ℕ × ℕ)) (es : List ℕ) (lower upper : ℕ) (cert : Cert) (trail : Trail) (runs : Option (List (List ℕ))) → CountsPaths s.mode → AreListed s i runs → IsSolvedBy s.nodes s.mode i es (Known a (Spent trail))
+    → upper ≡ length a → lower ≡ length es → IsCertFor s.nodes Interval i (length es) cert → is_cut cert ≡ false → SolvedRight s i (said Bounds (Some lower) (Some upper) a cert (Some trail) runs)
+right_by_trail s i a es lower upper cert trail runs counts listed by counted many shown other =
+    let more : length es < length a = by.finds.2.0 in
+    let spent = trail_for s.nodes s.mode i (decision_below Interval i (length a)) lower (Some (length a)) trail by.finds.2.1 (between_same s.mode i lower (length a) counts) in
+    let facts = counted_bounds s.mode s.nodes i es lower (Some (length a)) a cert trail runs (by.finds.0.meets, refl) by.finds.1 by.first by.known by.wide by.antichain many (omega (arith, many, more))
+    (cert_for s.nodes s.mode i lower cert counts (subst (λ n. IsCertFor s.nodes Interval i n cert) (sym many) shown)) (no_cut s.mode i cert other by.within) spent in
+    subst (λ n. SolvedRight s i (said Bounds (Some lower) (Some n) a cert (Some trail) runs)) (sym counted) (right_for s.mode s i _ counts facts listed)
 
--- what is found speaks of the graph
-pub found_in : (nodes : ℕ) (i : Instance) (a : List (List ℕ × ℕ)) (es : List ℕ) (ending : Ending) (mark : Mark) (lower upper : ℕ) (cert : Cert) (trail : Option Trail) (runs : Option (List (List ℕ)))
-    → IsSolvedBy nodes i a es ending → IfSome runs (AreRisingRuns i.graph) → lower < 2 ^ 64 → upper < 2 ^ 64 → IsCertOf i.graph cert → HasTrail mark trail → IsFoundIn i.graph (found mark lower upper a cert trail runs)
-found_in nodes i a es ending mark lower upper cert trail runs by rising low high shown has = record {
+-- no answer is known, and the search for any was spent
+pub right_by_open : (s : Settings) (i : Instance) (es : List ℕ) (lower : ℕ) (cert : Cert) (trail : Trail) (runs : Option (List (List ℕ))) → CountsPaths s.mode → AreListed s i runs → IsSolvedBy s.nodes s.mode i es (Open trail)
+    → lower ≡ length es → IsCertFor s.nodes Interval i (length es) cert → is_cut cert ≡ false → SolvedRight s i (said Bounds (Some lower) None [] cert (Some trail) runs)
+right_by_open s i es lower cert trail runs counts listed by many shown other =
+    let spent = trail_for s.nodes s.mode i (decision_at_all Interval i) lower None trail by.finds (all_same s.mode i counts) in
+    let facts = counted_bounds s.mode s.nodes i es lower None [] cert trail runs refl (omega arith) by.first by.known by.wide by.antichain many tt
+    (cert_for s.nodes s.mode i lower cert counts (subst (λ n. IsCertFor s.nodes Interval i n cert) (sym many) shown)) (no_cut s.mode i cert other by.within) spent in
+    right_for s.mode s i _ counts facts listed
+
+-- there is a crowd
+pub right_by_crowd : (s : Settings) (i : Instance) (es : List ℕ) (e : ℕ) (cs : List ℕ) (runs : Option (List (List ℕ))) → CountsPaths s.mode → AreListed s i runs → IsSolvedBy s.nodes s.mode i es (Crowded e cs)
+    → SolvedRight s i (said Infeasible None None [] (Crowd e cs) None runs)
+right_by_crowd s i es e cs runs counts listed by =
+    let facts = counted_none s.mode s.nodes i (Crowd e cs) runs by.first by.known (record { lower = refl; upper = refl; cert = (counts, by.finds.0); no_trail = refl }) (no_cut s.mode i (Crowd e cs) refl by.within)
+    (λ b ok. crowds_refute i e cs b by.finds.0 ok.0 ok.1 ok.2) in
+    right_for s.mode s i _ counts facts listed
+
+-- as many paths as can be needed are refuted
+pub right_by_never : (s : Settings) (i : Instance) (es : List ℕ) (tree : Trail) (runs : Option (List (List ℕ))) → CountsPaths s.mode → AreListed s i runs → IsSolvedBy s.nodes s.mode i es (Never tree)
+    → SolvedRight s i (said Infeasible None None [] (Tree tree) None runs)
+right_by_never s i es tree runs counts listed by =
+    let same = all_same s.mode i counts in
+    let facts = counted_none s.mode s.nodes i (Tree tree) runs by.first by.known
+    (record { lower = refl; upper = refl; no_trail = refl; cert = record { decision = by.finds.decision ∙ same; refuted = subst (λ d. IsRefutation i d tree.tokens) same by.finds.refuted; few = by.finds.few } })
+    (no_cut s.mode i (Tree tree) refl by.within)
+    (trees_refute_all Interval i tree.tokens (with_ranges s.mode i by.valid) by.finds.refuted) in
+    right_for s.mode s i _ counts facts listed
+
+-- the entries of an answer fit a report
+entries_fit : (g : Graph) (a : List (List ℕ × ℕ)) → IsAnswer g a → All (λ entry. entry.1 < 2 ^ 64) a → All (IsEntryOf g) a
+entries_fit g a answer small k d there =
+    let parts = and_parts _ _ (all-place (λ (entry : List ℕ × ℕ). is_path g entry.0 && nat_le 1 entry.1) a d k answer there) in
+    record { path = parts.0; positive = leb-true _ _ parts.1; small = small k d there }
+
+-- what is said of an answer speaks of the graph
+pub found_in : (i : Instance) (a : List (List ℕ × ℕ)) (mark : Mark) (lower upper : ℕ) (cert : Cert) (trail : Option Trail) (runs : Option (List (List ℕ)))
+    → IsAnswer i.graph a → IsInReportOrder a → All (λ entry. entry.1 < 2 ^ 64) a → IfSome runs (AreRisingRuns i.graph) → lower < 2 ^ 64 → upper < 2 ^ 64 → IsCertOf i.graph cert → HasTrail mark trail
+    → IsFoundIn i.graph (said mark (Some lower) (Some upper) a cert trail runs)
+found_in i a mark lower upper cert trail runs answer order small rising low high shown has = record {
   lower = low;
   upper = high;
-  paths = entries_fit i a by.valid by.known.meets;
-  order = by.known.order;
+  paths = entries_fit i.graph a answer small;
+  order = order;
+  cert = shown;
+  trail = has;
+  safe = rising;
+}
+
+-- and what is said without one
+pub none_in : (g : Graph) (mark : Mark) (lower : Option ℕ) (cert : Cert) (trail : Option Trail) (runs : Option (List (List ℕ)))
+    → IfSome runs (AreRisingRuns g) → IsSmall lower → IsCertOf g cert → HasTrail mark trail → IsFoundIn g (said mark lower None [] cert trail runs)
+none_in g mark lower cert trail runs rising low shown has = record {
+  lower = low;
+  upper = tt;
+  paths = λ k d there. absurd (omega (arith, there));
+  order = refl;
   cert = shown;
   trail = has;
   safe = rising;

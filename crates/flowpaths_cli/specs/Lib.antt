@@ -2,7 +2,11 @@ pub mod Items
 pub mod Words
 pub mod Said
 pub mod Examples
+pub mod Booking
 pub mod Right
 pub mod Searched
+pub mod Firsts
+pub mod Room
+pub mod Halved
 pub mod Run
 pub mod Reporting

@@ -1,16 +1,17 @@
 -- When a report is right for a block, and the status of a run.
-use Rattle.std.specs.Prelude.{◌≤◌, ◌<◌, ◌≡◌, ◌+◌, ℕ, List, length, Bool, true, false, if◌then◌else◌, Option, None, Some, is_some, IfSome, Result, Ok, Err, IsSomeAnd, IsTrue}
+use Rattle.std.specs.Prelude.{◌≤◌, ◌<◌, ◌≡◌, ◌+◌, ◌/◌, ◌↔◌, ℕ, List, [], length, Bool, true, false, if◌then◌else◌, Option, None, Some, is_some, IfSome, Result, Ok, Err, IsSomeAnd, IsTrue}
 use Rattle.std.specs.List.{list_any}
 use Rattle.decomposition.specs.declared.Mode.{Mode}
 use Rattle.decomposition.specs.declared.Mode.TheVariants.{Exact, Interval, Abs}
+use Rattle.decomposition.specs.declared.Decision.{Decision}
 use Rattle.decomposition.specs.Graph.{edge_count}
-use Rattle.decomposition.specs.Instance.{Instance, Meets, objective, lower_bound, IsOptimal, IsLowerBound}
+use Rattle.decomposition.specs.Answer.{IsAnswer}
+use Rattle.decomposition.specs.Instance.{Instance, Meets, error, objective, IsOptimal, IsLowerBound, IsInfeasible}
 use Rattle.decomposition.specs.Width.{IsAntichain, IsWidth}
-use Rattle.decomposition.specs.FirstAnswer.{IsFirstAnswer}
 use Rattle.decomposition.specs.SafeRuns.{IsSafe, AreMaximal}
 use Rattle.decomposition.specs.Tokens.{rule_list}
 use Rattle.decomposition.specs.Searches.{EndsSpent}
-use Rattle.decomposition.specs.Certificates.{decision_below, IsBoundingTree}
+use Rattle.decomposition.specs.Certificates.{decision_below, decision_at_all, IsBoundingTree, IsInfeasibleTree, IsCut, IsCrowd}
 use Rattle.flow_io.specs.declared.status.Status.{Status}
 use Rattle.flow_io.specs.declared.status.Status.TheVariants.{Clean, Partial, Refused as SomeRefused}
 use Rattle.graph_text.specs.Blocks.{TextBlock, name_of}
@@ -27,43 +28,106 @@ use Rattle.path_report.specs.declared.report.Mark.TheVariants.{Optimal, Infeasib
 use Rattle.path_report.specs.declared.report.Cert.{Cert}
 use Rattle.path_report.specs.declared.report.Cert.TheVariants.{Zero, Wide, Tree, Cut, Crowd}
 use Rattle.path_report.specs.declared.report.Trail.{Trail}
-use Rattle.path_report.specs.ReportText.{is_regular, text_of}
+use Rattle.path_report.specs.ReportText.{is_mode, is_regular, text_of}
+use Rattle.flowpaths_cli.specs.Booking.{IsAtMostFirst, IsKnownWhereBookedFit}
 use Rattle.flowpaths_cli.specs.Items.{most_nodes}
 use Rattle.flowpaths_cli.specs.declared.settings.Settings.{Settings}
 
+-- the models in which the number of paths is to be least
+abbrev pub CountsPaths : Mode → Type 0
+CountsPaths Exact = Unit {0}
+CountsPaths Interval = Unit {0}
+CountsPaths (Abs k) = ⊥
+
+-- the model in which a flow within the ranges may be wanting
+abbrev pub HasRanges : Mode → Type 0
+HasRanges Exact = ⊥
+HasRanges Interval = Unit {0}
+HasRanges (Abs k) = ⊥
+
 -- a lower bound that is shown by as many edges with a lower bound of at least 1, of which no two lie on one path: it is the width
-pub record IsShownWide (i : Instance) (lower : ℕ) (es : List ℕ) : Type 0 where
+pub record IsShownWide (mode : Mode) (i : Instance) (lower : ℕ) (es : List ℕ) : Type 0 where
+  pub counts : CountsPaths mode
   pub positive : 1 ≤ lower
   pub width : IsWidth i lower
   pub antichain : IsAntichain i es
   pub counted : length es ≡ lower
 
--- a lower bound above the width that is shown by a refutation of the next smaller number, with at most so many tokens
+-- a lower bound that is shown by a refutation of the next smaller number, with at most so many tokens; where paths are counted it is not the width
 pub record IsShownByTree (nodes : ℕ) (mode : Mode) (i : Instance) (lower : ℕ) (tree : Trail) : Type 0 where
   pub decision : tree.decision ≡ decision_below mode i lower
   pub bounding : IsBoundingTree mode i lower tree.tokens
   pub few : length tree.tokens ≤ nodes
-  pub not_width : IsWidth i lower → ⊥
+  pub not_width : CountsPaths mode → IsWidth i lower → ⊥
 
 -- the certificate of a lower bound: none for 0, an antichain for the width, and else a refutation
 abbrev pub IsCertFor : ℕ → Mode → Instance → ℕ → Cert → Type 0
 IsCertFor nodes mode i lower Zero = lower ≡ 0
-IsCertFor nodes mode i lower (Wide es) = IsShownWide i lower es
+IsCertFor nodes mode i lower (Wide es) = IsShownWide mode i lower es
 IsCertFor nodes mode i lower (Tree tree) = IsShownByTree nodes mode i lower tree
 IsCertFor nodes mode i lower (Cut side vertices) = ⊥
 IsCertFor nodes mode i lower (Crowd e rules) = ⊥
 
--- the trail of a search for a better answer that was spent: the rule list of so many tokens, after which some token is legal for the first box
-pub record IsTrailFor (nodes : ℕ) (mode : Mode) (i : Instance) (upper : ℕ) (trail : Trail) : Type 0 where
-  pub decision : trail.decision ≡ decision_below mode i upper
+-- a refutation that no answer meets, with at most so many tokens
+pub record IsNeverByTree (nodes : ℕ) (mode : Mode) (i : Instance) (tree : Trail) : Type 0 where
+  pub decision : tree.decision ≡ decision_at_all mode i
+  pub refuted : IsInfeasibleTree mode i tree.tokens
+  pub few : length tree.tokens ≤ nodes
+
+-- the certificate that nothing meets: a refutation, a cut, or a crowd
+abbrev pub IsCertOfNone : ℕ → Mode → Instance → Cert → Type 0
+IsCertOfNone nodes mode i Zero = ⊥
+IsCertOfNone nodes mode i (Wide es) = ⊥
+IsCertOfNone nodes mode i (Tree tree) = IsNeverByTree nodes mode i tree
+IsCertOfNone nodes mode i (Cut side vertices) = HasRanges mode × IsCut i side vertices
+IsCertOfNone nodes mode i (Crowd e rules) = CountsPaths mode × IsCrowd i e rules
+
+-- the decision that asks for something better than `upper`, or for anything that meets; of an error it asks for the middle of both bounds
+abbrev pub decision_between : Mode → Instance → ℕ → Option ℕ → Decision
+decision_between mode i lower None = decision_at_all mode i
+decision_between Exact i lower (Some upper) = decision_below Exact i upper
+decision_between Interval i lower (Some upper) = decision_below Interval i upper
+decision_between (Abs k) i lower (Some upper) = record { slots = k; limit = Some ((lower + upper) / 2) }
+
+-- the trail of a search that was spent: the rule list of so many tokens, after which some token is legal for the first box
+pub record IsTrailFor (nodes : ℕ) (mode : Mode) (i : Instance) (lower : ℕ) (upper : Option ℕ) (trail : Trail) : Type 0 where
+  pub decision : trail.decision ≡ decision_between mode i lower upper
   pub tokens : trail.tokens ≡ rule_list i trail.decision nodes
   pub spent : EndsSpent i trail.decision nodes
 
--- the mark of bounds, and the trail where a search was spent
-abbrev pub IsMarkFor : ℕ → Mode → Instance → ℕ → ℕ → Mark → Option Trail → Type 0
-IsMarkFor nodes mode i lower upper Optimal trail = (lower ≡ upper) × (trail ≡ None)
-IsMarkFor nodes mode i lower upper Infeasible trail = ⊥
-IsMarkFor nodes mode i lower upper Bounds trail = (lower < upper) × IsSomeAnd trail (IsTrailFor nodes mode i upper)
+-- an optimum that is known: both bounds are one number, and its certificate shows that nothing is below it
+pub record IsDecided (nodes : ℕ) (mode : Mode) (i : Instance) (s : Solved) : Type 0 where
+  pub value : ℕ
+  pub lower : s.lower ≡ Some value
+  pub upper : s.upper ≡ Some value
+  pub cert : IsCertFor nodes mode i value s.cert
+  pub no_trail : s.trail ≡ None
+
+-- nothing meets, and the certificate shows it
+pub record IsWithoutAnswer (nodes : ℕ) (mode : Mode) (i : Instance) (s : Solved) : Type 0 where
+  pub lower : s.lower ≡ None
+  pub upper : s.upper ≡ None
+  pub cert : IsCertOfNone nodes mode i s.cert
+  pub no_trail : s.trail ≡ None
+
+-- an optimum that is not known: it is at least `lower`, whose certificate shows it, and `upper`, if an answer is known, is above that; the trail shows the search that was spent
+pub record IsBounded (nodes : ℕ) (mode : Mode) (i : Instance) (s : Solved) : Type 0 where
+  pub value : ℕ
+  pub lower : s.lower ≡ Some value
+  pub upper : IfSome s.upper (λ upper. value < upper)
+  pub cert : IsCertFor nodes mode i value s.cert
+  pub trail : IsSomeAnd s.trail (IsTrailFor nodes mode i value s.upper)
+
+-- what the mark says of the bounds, the certificate and the trail
+abbrev pub IsMarked : ℕ → Mode → Instance → Solved → Mark → Type 0
+IsMarked nodes mode i s Optimal = IsDecided nodes mode i s
+IsMarked nodes mode i s Infeasible = IsWithoutAnswer nodes mode i s
+IsMarked nodes mode i s Bounds = IsBounded nodes mode i s
+
+-- the paths are an answer that meets the model, and `upper` is its value; where there is none, no path is printed
+abbrev pub ArePathsFor : Mode → Instance → Option ℕ → List (List ℕ × ℕ) → Type 0
+ArePathsFor mode i None paths = paths ≡ []
+ArePathsFor mode i (Some upper) paths = Meets mode i paths × (objective mode i paths ≡ upper)
 
 -- there are at most as many paths as edges and runs that must be covered, where the number of paths is to be least
 abbrev pub AreFew : Mode → Instance → List (List ℕ × ℕ) → Type 0
@@ -71,38 +135,52 @@ AreFew Exact i paths = length paths ≤ edge_count i.graph + length i.rules
 AreFew Interval i paths = length paths ≤ edge_count i.graph + length i.rules
 AreFew (Abs k) i paths = Unit {0}
 
--- in the exact model, there are no more paths than in the first answer
-abbrev pub AreAtMostFirst : Mode → Instance → List (List ℕ × ℕ) → Type 0
-AreAtMostFirst Exact i paths = (first : List (List ℕ × ℕ)) → IsFirstAnswer i.graph (lower_bound i) i.rules first → length paths ≤ length first
-AreAtMostFirst Interval i paths = Unit {0}
-AreAtMostFirst (Abs k) i paths = Unit {0}
+-- a number of paths is at least the width
+abbrev pub IsAtLeastWidth : Mode → Instance → ℕ → Type 0
+IsAtLeastWidth mode i lower = CountsPaths mode → (es : List ℕ) → IsAntichain i es → length es ≤ lower
+
+-- whether a certificate is a cut
+abbrev pub is_cut : Cert → Bool
+is_cut Zero = false
+is_cut (Wide es) = false
+is_cut (Tree tree) = false
+is_cut (Cut side vertices) = true
+is_cut (Crowd e rules) = false
+
+-- no weighted paths lie within the ranges
+abbrev pub NothingIsWithin : Instance → Type 0
+NothingIsWithin i = (a : List (List ℕ × ℕ)) → IsAnswer i.graph a → error i a ≡ 0 → ⊥
+
+-- where there are ranges, a cut stands exactly where no weighted paths lie within them
+abbrev pub HasCutWhereDue : Mode → Instance → Cert → Type 0
+HasCutWhereDue mode i cert = HasRanges mode → IsTrue (is_cut cert) ↔ NothingIsWithin i
 
 -- the runs that are listed: there where they were asked for, and then the rising list of the maximal safe runs
 abbrev pub AreListed : Settings → Instance → Option (List (List ℕ)) → Type 0
 AreListed set i runs = (is_some runs ≡ set.safe) × IfSome runs (AreMaximal (IsSafe i))
 
--- A solved report is right and true for an instance: the paths are an answer that meets the model, `upper` is their value, and they are no more
--- than those of the first answer; `lower` is at least the width, its certificate shows it, and no answer is below it; the paths of an optimal
--- one are best, and of one that is not decided the trail shows the whole search that was spent; the runs listed are the maximal safe ones.
+-- A solved report is right and true for an instance: its paths meet the model with `upper` as their value, and are no worse than the first
+-- answer; what the mark says of bounds, certificate and trail holds; the runs listed are the maximal safe ones; no answer is below `lower`; the
+-- paths of an optimal one are best, and where the mark is infeasible nothing meets.
 pub record SolvedRight (set : Settings) (i : Instance) (s : Solved) : Type 0 where
-  pub meets : Meets set.mode i s.paths
-  pub upper_is : s.upper ≡ Some (objective set.mode i s.paths)
+  pub paths : ArePathsFor set.mode i s.upper s.paths
   pub few : AreFew set.mode i s.paths
-  pub first : AreAtMostFirst set.mode i s.paths
-  pub lower : ℕ
-  pub lower_is : s.lower ≡ Some lower
-  pub wide : (es : List ℕ) → IsAntichain i es → length es ≤ lower
-  pub cert : IsCertFor set.nodes set.mode i lower s.cert
-  pub mark : IsMarkFor set.nodes set.mode i lower (objective set.mode i s.paths) s.mark s.trail
+  pub first : IsAtMostFirst set.mode i s.upper
+  pub known : IsKnownWhereBookedFit set.mode i s.upper
+  pub wide : IfSome s.lower (IsAtLeastWidth set.mode i)
+  pub cut : HasCutWhereDue set.mode i s.cert
+  pub marked : IsMarked set.nodes set.mode i s s.mark
   pub safe : AreListed set i s.safe
-  pub bound : IsLowerBound set.mode i lower
+  pub bound : IfSome s.lower (IsLowerBound set.mode i)
   pub optimal : s.mark ≡ Optimal → IsOptimal set.mode i s.paths
+  pub infeasible : s.mark ≡ Infeasible → IsInfeasible set.mode i
 
--- the settings that are built: the exact model, and a number of tokens in its range
+-- the settings that are built: a model, a number of tokens in its range, and safe runs of exact graphs alone
 pub record AreBuilt (s : Settings) : Type 0 where
-  pub exact : s.mode ≡ Exact
+  pub mode : IsTrue (is_mode s.mode)
   pub least : 1 ≤ s.nodes
   pub most : s.nodes ≤ most_nodes
+  pub safe : s.safe ≡ true → s.mode ≡ Exact
 
 -- a body is right for what its block is read as: the same refusal, or a right solved report
 abbrev pub BodyRight : Settings → Result RawGraph Refusal → Body → Type 0

@@ -1,11 +1,19 @@
 //! The program `flowpaths`: words, the reading of an input, and a report for each of its blocks.
 #![tactic(auto)]
 
+mod bounds;
 mod call;
+mod counted;
+mod counting;
+mod crowds;
+mod exact;
 mod examples;
+mod interval;
+mod least_error;
 mod options;
 mod reading;
 mod reporting;
+mod room;
 mod said;
 mod searching;
 mod settings;

@@ -2,7 +2,7 @@
 use Rattle.std.proofs.Common.{◌∙◌, List, Bool, false, slice_index_or, subst}
 use Rattle.decomposition.specs.Width.{IsPathCover, IsAntichainOf}
 use Rattle.flowpaths_cli.proofs.Widths.{antichain-flags, width-flags}
-use Rattle.flowpaths_cli.proofs.solving.widest_antichain.Goals as goal
+use Rattle.flowpaths_cli.proofs.bounds.widest_antichain.Goals as goal
 
 pub returns-clause-width : goal.returns-clause-width
 returns-clause-width c =

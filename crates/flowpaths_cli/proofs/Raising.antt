@@ -1,0 +1,114 @@
+-- Ranges whose lower bounds are raised to the units of booked paths.
+use Rattle.std.proofs.Common.{◌≡◌, ℕ, ◌+◌, ◌≤◌, ◌<◌, max, List, [], ◌∷◌, ◌++◌, true, ◌&&◌, nat_le, Option, Some, None, Result, Ok, Err, length, length-append, get_or, refl, sym, ap, subst, ◌∙◌, inl, inr, arith, leb-true, le-leb}
+use Rattle.std.specs.List.{list_all}
+use Rattle.std.specs.Prelude.{IfOk, MatchOption, slice_index}
+use Rattle.std.proofs.Math.ListN.{get_or-append}
+use Rattle.std.proofs.Math.Seq.{get_or-append_seam}
+use Rattle.std.proofs.lemmas.Bool.{and_from, and_parts, cases_eq}
+use Rattle.decomposition.specs.declared.Range.{Range}
+use Rattle.decomposition.specs.declared.Side.TheVariants.{Entering, Leaving}
+use Rattle.decomposition.specs.Answer.{weight_on}
+use Rattle.decomposition.specs.Graph.{Graph, IsNet, edge_count}
+use Rattle.decomposition.specs.Instance.{distance, error, range_at}
+use Rattle.decomposition.proofs.Cuts.{cuts_refute, within}
+use Rattle.decomposition.proofs.Open.{all-from_places}
+use Rattle.decomposition.proofs.Root.{all-place}
+use Rattle.decomposition.proofs.Sums.{sum_below-nil}
+use Rattle.greedy_paths.specs.Units.{AreUnits}
+use Rattle.lower_flow.specs.declared.found.FlowOrCut.{FlowOrCut}
+use Rattle.lower_flow.specs.declared.found.FlowOrCut.TheVariants.{Flow, InCut, OutCut}
+use Rattle.lower_flow.specs.Found.{IsFlowOrCut}
+use Rattle.flowpaths_cli.specs.Right.{NothingIsWithin}
+use Rattle.flowpaths_cli.specs.Room.{AreRaised, AreRaisedBefore, HasNoRoomFor, HasRoomFor, IsFlowIn, IsPassed, ranged}
+
+abbrev none : Range
+none = record { lo = 0; hi = 0 }
+
+-- one range more
+pub raised-more : (n : ℕ) (ranges : List Range) (units : List ℕ) (raised : List Range) (low high : ℕ) → AreRaisedBefore n ranges units raised
+    → low ≡ max (range_at ranges n).lo (slice_index units n) → high ≡ (range_at ranges n).hi → slice_index units n ≤ (range_at ranges n).hi
+    → AreRaisedBefore (n + 1) ranges units (raised ++ record { lo = low; hi = high } ∷ [])
+raised-more n ranges units raised low high before is_low is_high fits =
+    let r : Range = record { lo = low; hi = high } in
+    let last : range_at (raised ++ r ∷ []) n ≡ r = subst (λ m. get_or (raised ++ r ∷ []) m none ≡ r) before.count (get_or-append_seam raised r [] none) in
+    let old : (e : ℕ) → e < n → range_at (raised ++ r ∷ []) e ≡ range_at raised e = λ e there. get_or-append raised (r ∷ []) none e (omega (arith, there, before.count)) in
+    record {
+      count = omega (arith, length-append raised (r ∷ []), before.count);
+      low = λ e there. elim (cases_eq e n) [
+        | inl is ↦ subst (λ m. (range_at (raised ++ r ∷ []) m).lo ≡ max (range_at ranges m).lo (slice_index units m)) (sym is) (ap (λ (s : Range). s.lo) last ∙ is_low)
+        | inr other ↦ ap (λ (s : Range). s.lo) (old e (omega (arith, there, other))) ∙ before.low e (omega (arith, there, other))
+      ];
+      high = λ e there. elim (cases_eq e n) [
+        | inl is ↦ subst (λ m. (range_at (raised ++ r ∷ []) m).hi ≡ (range_at ranges m).hi) (sym is) (ap (λ (s : Range). s.hi) last ∙ is_high)
+        | inr other ↦ ap (λ (s : Range). s.hi) (old e (omega (arith, there, other))) ∙ before.high e (omega (arith, there, other))
+      ];
+      fits = λ e there. elim (cases_eq e n) [
+        | inl is ↦ subst (λ m. slice_index units m ≤ (range_at ranges m).hi) (sym is) fits
+        | inr other ↦ before.fits e (omega (arith, there, other))
+      ];
+    }
+
+-- raised ranges are ranges
+pub raised-bounded : (ranges : List Range) (units : List ℕ) (raised : List Range) → list_all (λ (r : Range). nat_le r.lo r.hi && nat_le r.hi 1000000000000) ranges ≡ true → AreRaised ranges units raised
+    → list_all (λ (r : Range). nat_le r.lo r.hi && nat_le r.hi 1000000000000) raised ≡ true
+raised-bounded ranges units raised bounded are =
+    all-from_places (λ (r : Range). nat_le r.lo r.hi && nat_le r.hi 1000000000000) raised none
+    (λ e there.
+    let inside : e < length ranges = omega (arith, there, are.count) in
+    let both = and_parts _ _ (all-place (λ (r : Range). nat_le r.lo r.hi && nat_le r.hi 1000000000000) ranges none e bounded inside) in
+    let low = leb-true (range_at ranges e).lo (range_at ranges e).hi both.0 in
+    let high = leb-true (range_at ranges e).hi 1000000000000 both.1 in
+    and_from (nat_le (range_at raised e).lo (range_at raised e).hi) (nat_le (range_at raised e).hi 1000000000000)
+    (le-leb _ _ (omega (arith, are.low e inside, are.high e inside, are.fits e inside, low))) (le-leb _ _ (omega (arith, are.high e inside, high))))
+
+-- a flow within the raised ranges has room for the booked paths
+pub raised-room : (g : Graph) (ranges raised : List Range) (units : List ℕ) (booked : List (List ℕ × ℕ)) (flow : List ℕ) → length ranges ≡ edge_count g → AreUnits g booked units → AreRaised ranges units raised
+    → IsFlowIn g raised flow → HasRoomFor g ranges booked flow
+raised-room g ranges raised units booked flow one_each counts are (long, f) = record {
+  within = (long, record {
+    balanced = f.balanced;
+    low = λ e inside. omega (arith, f.low e inside, are.low e (omega (arith, inside, one_each)));
+    high = λ e inside. omega (arith, f.high e inside, are.high e (omega (arith, inside, one_each)));
+  });
+  units = λ e inside. omega (arith, f.low e inside, are.low e (omega (arith, inside, one_each)), counts.each e inside);
+}
+
+-- no room where the units of an edge pass its upper bound
+pub passed-no_room : (g : Graph) (ranges : List Range) (units : List ℕ) (booked : List (List ℕ × ℕ)) → length ranges ≡ edge_count g → AreUnits g booked units → IsPassed ranges units → HasNoRoomFor g ranges booked
+passed-no_room g ranges units booked one_each counts (e, there, passed) a answer zero_error above =
+    let inside : e < edge_count g = omega (arith, there, one_each) in
+    omega (arith, passed, counts.each e inside, above e inside, (within (ranged g ranges) a e zero_error inside).1)
+
+-- weighted paths that have room lie within the raised ranges
+room-raised : (g : Graph) (ranges raised : List Range) (units : List ℕ) (booked a : List (List ℕ × ℕ)) → length ranges ≡ edge_count g → AreUnits g booked units → AreRaised ranges units raised
+    → error (ranged g ranges) a ≡ 0 → ((e : ℕ) → e < edge_count g → weight_on booked e ≤ weight_on a e) → error (ranged g raised) a ≡ 0
+room-raised g ranges raised units booked a one_each counts are zero_error above =
+    sum_below-nil (λ e. distance (range_at raised e) (weight_on a e)) (edge_count g)
+    (λ e inside.
+    let both = within (ranged g ranges) a e zero_error inside in
+    let there : e < length ranges = omega (arith, inside, one_each) in
+    omega (arith, both.0, both.1, are.low e there, are.high e there, counts.each e inside, above e inside))
+
+-- so there is no room where nothing lies within the raised ranges
+pub nothing-no_room : (g : Graph) (ranges raised : List Range) (units : List ℕ) (booked : List (List ℕ × ℕ)) → length ranges ≡ edge_count g → AreUnits g booked units → AreRaised ranges units raised
+    → NothingIsWithin (ranged g raised) → HasNoRoomFor g ranges booked
+nothing-no_room g ranges raised units booked one_each counts are none a answer zero_error above =
+    none a answer (room-raised g ranges raised units booked a one_each counts are zero_error above)
+
+-- nothing lies within ranges that have no flow
+pub no_flow : (g : Graph) (ranges : List Range) (r : FlowOrCut) → IsNet g → IsFlowOrCut g ranges r → ((flow : List ℕ) → r ≡ Flow flow → ⊥) → NothingIsWithin (ranged g ranges)
+no_flow g ranges (Flow flow) net is not_flow = absurd (not_flow flow refl)
+no_flow g ranges (InCut xs) net is not_flow = λ a answer zero_error. cuts_refute (ranged g ranges) Entering xs a net is.0 answer zero_error
+no_flow g ranges (OutCut xs) net is not_flow = λ a answer zero_error. cuts_refute (ranged g ranges) Leaving xs a net is.0 answer zero_error
+
+-- a flow within the raised ranges, or none, tells whether there is room
+pub room_of : (g : Graph) (ranges raised : List Range) (units : List ℕ) (booked : List (List ℕ × ℕ)) (found : Option (List ℕ)) → length ranges ≡ edge_count g → AreUnits g booked units → AreRaised ranges units raised
+    → MatchOption found (NothingIsWithin (ranged g raised)) (IsFlowIn g raised) → MatchOption found (HasNoRoomFor g ranges booked) (HasRoomFor g ranges booked)
+room_of g ranges raised units booked None one_each counts are is = nothing-no_room g ranges raised units booked one_each counts are is
+room_of g ranges raised units booked (Some flow) one_each counts are is = raised-room g ranges raised units booked flow one_each counts are is
+
+-- the same, where there was memory
+pub room_if_ok : {E : Type 0} (g : Graph) (ranges raised : List Range) (units : List ℕ) (booked : List (List ℕ × ℕ)) (r : Result (Option (List ℕ)) E) → length ranges ≡ edge_count g → AreUnits g booked units → AreRaised ranges units raised
+    → IfOk r (λ found. MatchOption found (NothingIsWithin (ranged g raised)) (IsFlowIn g raised)) → IfOk r (λ found. MatchOption found (HasNoRoomFor g ranges booked) (HasRoomFor g ranges booked))
+room_if_ok g ranges raised units booked (Ok found) one_each counts are is = room_of g ranges raised units booked found one_each counts are is
+room_if_ok g ranges raised units booked (Err e) one_each counts are is = tt

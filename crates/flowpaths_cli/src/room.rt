@@ -1,0 +1,78 @@
+//! Room for booked paths: flows within ranges that carry their units.
+ghost use Rattle.std.specs.Prelude.{◌≡◌, ◌≤◌, ◌<◌, ◌==◌, ◌&&◌, nat_le, ◌^◌, ℕ, List, length, slice_index, IfOk, IsTrue, MatchOption};
+ghost use Rattle.std.specs.List.{list_all};
+ghost use Rattle.decomposition.specs.Answer.{IsAnswer, weight_on};
+ghost use Rattle.decomposition.specs.Graph.{Graph, edge_count};
+ghost use Rattle.flowpaths_cli.specs.Right.{NothingIsWithin};
+ghost use Rattle.flowpaths_cli.specs.Room.{HasRoomFor, HasNoRoomFor, AreRaised, IsPassed, IsFlowIn, ranged};
+
+use dag_net::{Answer, Net, Numbers, Range, Ranges};
+use greedy_paths::units_on;
+use lower_flow::{FlowOrCut, bounded_flow};
+use std::alloc::{AllocError, Global};
+
+/// A flow within the ranges that is at least the units of the booked paths on each edge, if there is one.
+pub fn flow_with_room(
+    alloc: Global,
+    net: &Net,
+    ranges: &Ranges,
+    flow: Numbers,
+    booked: &Answer,
+) -> Result<Option<Numbers>, AllocError>
+    requires one_each { length ranges.now ≡ edge_count net.now }
+    requires bounded { IsTrue (list_all (λ r. nat_le r.lo r.hi && nat_le r.hi 1000000000000) ranges.now) }
+    requires flow { IsFlowIn net.now ranges.now flow }
+    requires answer { IsAnswer net.now booked.now }
+    requires units { IsTrue (list_all (λ entry. entry.1 == 1) booked.now) }
+    requires few { length booked.now ≤ 32 }
+    ensures { IfOk result (λ found. MatchOption found (HasNoRoomFor net.now ranges.now booked.now) (HasRoomFor net.now ranges.now booked.now)) }
+{
+    if booked.len() == 0 {
+        return Ok(Some(flow));
+    }
+    let units = units_on(alloc, net, booked)?;
+    match raised_by(alloc, ranges, &units)? {
+        Some(raised) => flow_within(alloc, net, raised.as_slice()),
+        None => Ok(None),
+    }
+}
+
+/// A flow within ranges, if there is one.
+fn flow_within(
+    alloc: Global,
+    net: &Net,
+    ranges: &[Range],
+) -> Result<Option<Numbers>, AllocError>
+    requires one_each { length ranges.now ≡ edge_count net.now }
+    requires bounded { IsTrue (list_all (λ r. nat_le r.lo r.hi && nat_le r.hi 1000000000000) ranges.now) }
+    ensures { IfOk result (λ found. MatchOption found (NothingIsWithin (ranged net.now ranges.now)) (IsFlowIn net.now ranges.now)) }
+{
+    prove!(net.edges() <= 4096);
+    match bounded_flow(alloc, net, ranges)? {
+        FlowOrCut::Flow(flow) => Ok(Some(flow)),
+        _ => Ok(None),
+    }
+}
+
+/// The ranges with each lower bound raised to the units, or none where the units of an edge pass its upper bound.
+fn raised_by(
+    alloc: Global,
+    ranges: &Ranges,
+    units: &[u64],
+) -> Result<Option<Ranges>, AllocError>
+    requires one_each { length units.now ≡ length ranges.now }
+    ensures { IfOk result (λ raised. MatchOption raised (IsPassed ranges.now units.now) (AreRaised ranges.now units.now)) }
+{
+    let mut raised = Ranges::new(alloc);
+    for e in 0..ranges.len() {
+        let range = ranges.get(e);
+        if units[e] > range.hi {
+            return Ok(None);
+        }
+        raised.push(Range {
+            lo: range.lo.max(units[e]),
+            hi: range.hi,
+        })?;
+    }
+    Ok(Some(raised))
+}
