@@ -26,7 +26,7 @@ entry-read entries k x h read = get_or_read entries k x h read (record { vertex 
 Grows-same : (entries : List Reached) (marked : List Bool) → Grows entries marked entries marked
 Grows-same entries marked = record { longer = omega arith; same = λ k h. refl; marks = λ v h. h }
 
-pub Grows-trans : (a : List Reached) (am : List Bool) (b : List Reached) (bm : List Bool) (c : List Reached) (cm : List Bool) → Grows a am b bm → Grows b bm c cm → Grows a am c cm
+Grows-trans : (a : List Reached) (am : List Bool) (b : List Reached) (bm : List Bool) (c : List Reached) (cm : List Bool) → Grows a am b bm → Grows b bm c cm → Grows a am c cm
 Grows-trans a am b bm c cm first second = record {
   longer = let x : length a ≤ length b = first.longer in let y : length b ≤ length c = second.longer in omega arith;
   same = λ k h. let x : length a ≤ length b = first.longer in second.same k (omega arith) ∙ first.same k h;

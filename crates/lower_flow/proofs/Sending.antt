@@ -176,7 +176,7 @@ module _ (g : Graph) (ranges : List Range) (side : Side) (old : List ℕ) (entri
       at-below : at < length entries
       at-below = let le : at ≤ target.place = sends.within in let lt : target.place < length entries = there.there in omega arith
 
-      pub edge-below : e < edge_count g
+      edge-below : e < edge_count g
       edge-below = (step-at at e from at-below way).edge
 
       -- the edge has room for the amount
@@ -248,10 +248,6 @@ module _ (g : Graph) (ranges : List Range) (side : Side) (old : List ℕ) (entri
           (subst (λ u. IsShift g (near g side) (far g side) (slice_index old) (slice_index (slice_set flow e (slice_index flow e - target.amount))) u (entry_at entries target.place).vertex target.amount) step.0
           (IsShift-back g (near g side) (far g side) (slice_index old) (entry_at entries target.place).vertex target.amount (slice_index flow) (slice_index (slice_set flow e (slice_index flow e - target.amount))) e edge-below shift
           (IsRaised-unset flow e target.amount (omega (arith, edge-below)) (omega (arith, sends.ranged.low e edge-below, back-room other)))))
-
-      -- a step leads to an earlier entry
-      pub step-falls : from < at
-      step-falls = (step-at at e from at-below way).earlier
 
     pub Sends-all : (flow : List ℕ) (at : ℕ) → Sends g ranges side old entries target flow at → (entry_at entries at).way ≡ None → (entry_at entries at).vertex < g.vertices → IsSent g side (slice_index old) (slice_index flow)
     Sends-all flow at sends way below =

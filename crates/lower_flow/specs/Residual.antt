@@ -30,7 +30,7 @@ pub record AreSumsAt (g : Graph) (end flow : ℕ → ℕ) (sums : List ℕ) : Ty
 abbrev pub surplus : Graph → Side → (ℕ → ℕ) → ℕ → ℕ
 surplus g side flow v = cond (is_inner g v) (flow_at g (far g side) flow v - flow_at g (near g side) flow v) 0
 
--- how much less an inner vertex has there
+-- how much less an inner vertex has at the far ends of edges than at their near ends
 abbrev pub deficit : Graph → Side → (ℕ → ℕ) → ℕ → ℕ
 deficit g side flow v = cond (is_inner g v) (flow_at g (near g side) flow v - flow_at g (far g side) flow v) 0
 

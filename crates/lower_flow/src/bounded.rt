@@ -38,15 +38,15 @@ fn numbers(alloc: Global, flow: &[u64]) -> Result<Numbers, AllocError>
 
 /// A flow within the ranges, or a cut that shows that there is none.
 ///
-/// Asked for is a number for each edge, within its range, so that as much enters each inner vertex as leaves it; sources and sinks may send and receive what they will.
-/// There are three answers:
+/// Wanted is a number for each edge, within its range, so that as much enters each inner vertex as leaves it; sources and sinks are free. There are three answers:
 ///
 /// - `Flow`: such numbers, one for each edge;
-/// - `InCut`: vertices, rising, none of them a sink, that must receive more than they can send on: the lower bounds of the edges that enter them from others sum to more
-///   than the upper bounds of the edges that leave them for others;
-/// - `OutCut`: vertices, rising, none of them a source, that must send more than they can receive: the same with entering and leaving exchanged.
+/// - `InCut`: vertices, rising, none of them a sink, that must receive more than they can send on: the lower bounds of the edges that enter the set sum to more than the
+///   upper bounds of the edges that leave it;
+/// - `OutCut`: vertices, rising, none of them a source, that must send more than they can receive: the lower bounds of the edges that leave the set sum to more than the
+///   upper bounds of the edges that enter it.
 ///
-/// Where there is a cut there is no flow, and the other way round. The only error is want of memory.
+/// The only error is want of memory.
 pub fn bounded_flow(alloc: Global, net: &Net, ranges: &[Range]) -> Result<FlowOrCut, AllocError>
     requires one_each { length ranges.now ≡ edge_count net.now }
     requires bounded { IsTrue (list_all (λ r. nat_le r.lo r.hi && nat_le r.hi 1000000000000) ranges.now) }
