@@ -1,6 +1,6 @@
 //! Flows within ranges, and the cuts that show that there are none.
 
-ghost use Rattle.std.specs.Prelude.{◌≡◌, ◌&&◌, nat_le, length};
+ghost use Rattle.std.specs.Prelude.{◌≡◌, ◌≤◌, ◌↔◌, ◌&&◌, nat_le, IsTrue, All};
 ghost use Rattle.std.specs.List.{list_all};
 
 use dag_net::{Net, Range};
@@ -94,13 +94,26 @@ fn are_bounded(ranges: &[Range]) -> bool
         .all(|r| r.lo <= r.hi && r.hi <= 1_000_000_000_000)
 }
 
+/// Whether no number is too great.
+fn are_small(flow: &[u64]) -> bool
+    ensures { IsTrue result ↔ All (λ units. units ≤ 1000000000000) flow.now }
+{
+    flow.iter().all(|units| *units <= 1_000_000_000_000)
+}
+
 /// Whether there is a number within its range for each edge, and each inner vertex is balanced.
 fn is_flow(alloc: Global, net: &Net, ranges: &[Range], flow: &[u64]) -> Result<bool, Fail> {
+    if flow.len() != net.edges() as usize {
+        return Ok(false);
+    }
+    if !are_small(flow) {
+        return Ok(false);
+    }
     let within = flow
         .iter()
         .zip(ranges)
         .all(|(f, r)| r.lo <= *f && *f <= r.hi);
-    Ok(flow.len() == ranges.len() && within && net.first_unbalanced(alloc, flow)?.is_none())
+    Ok(within && net.first_unbalanced(alloc, flow)?.is_none())
 }
 
 /// Whether the answer for these edges is the wanted one.
