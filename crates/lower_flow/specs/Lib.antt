@@ -1,0 +1,5 @@
+pub mod Entering
+pub mod Residual
+pub mod Search
+pub mod Found
+pub mod Clearing

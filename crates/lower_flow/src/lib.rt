@@ -1,0 +1,13 @@
+//! Flows within ranges, or the cuts that show that there are none.
+#![tactic(auto)]
+
+pub use bounded::bounded_flow;
+pub use found::FlowOrCut;
+
+mod bounded;
+mod clearing;
+mod ends;
+mod entering;
+mod found;
+mod search;
+mod sums;
