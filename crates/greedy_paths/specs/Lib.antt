@@ -1,3 +1,7 @@
 pub mod Greedy
 pub mod Widths
 pub mod Widest
+pub mod Greatest
+pub mod Booking
+pub mod Built
+pub mod Laws

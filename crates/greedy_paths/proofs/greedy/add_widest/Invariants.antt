@@ -1,7 +1,7 @@
 use Rattle.std.proofs.Common.{slice_index}
 use Rattle.decomposition.proofs.FewPaths.{positive_count}
 use Rattle.greedy_paths.proofs.Decomposing.{LeavesRest}
-use Rattle.greedy_paths.proofs.greedy.widest_first.Given as goal
+use Rattle.greedy_paths.proofs.greedy.add_widest.Given as goal
 
 abbrev pub invariant-loop-answer : goal.invariant-loop-answer
 invariant-loop-answer l = LeavesRest l.net l.flow l.answer l.rest.items

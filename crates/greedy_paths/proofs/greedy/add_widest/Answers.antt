@@ -7,8 +7,8 @@ use Rattle.decomposition.specs.Flow.{rest_after}
 use Rattle.decomposition.specs.FirstAnswer.{IsWidest, path_width}
 use Rattle.decomposition.proofs.FewPaths.{positive_count}
 use Rattle.greedy_paths.proofs.Decomposing.{path-inside, path-once, path-enough, fewer_left, LeavesRest, LeavesRest-more, LeavesRest-all}
-use Rattle.greedy_paths.proofs.greedy.widest_first.Goals as goal
-use Rattle.greedy_paths.proofs.greedy.widest_first.Goals.{After-as_slice, After-take_off}
+use Rattle.greedy_paths.proofs.greedy.add_widest.Goals as goal
+use Rattle.greedy_paths.proofs.greedy.add_widest.Goals.{After-as_slice, After-take_off}
 
 -- the path that is taken is the widest of what is left
 found : (c : After-as_slice) → IsWidest c.args.net.now (slice_index c.loop-answer.rest.items) c.in-Some.path × (c.in-Some.width ≡ path_width (slice_index c.loop-answer.rest.items) c.in-Some.path)
