@@ -3,3 +3,8 @@ pub mod Finding
 pub mod Choosing
 pub mod TakingOff
 pub mod Decomposing
+pub mod Ahead
+pub mod Following
+pub mod Booked
+pub mod BookedLists
+pub mod OneList
