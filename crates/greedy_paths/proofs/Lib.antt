@@ -8,3 +8,4 @@ pub mod Following
 pub mod Booked
 pub mod BookedLists
 pub mod OneList
+pub mod Counting

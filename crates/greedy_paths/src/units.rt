@@ -48,15 +48,15 @@ pub fn rest_of(alloc: Global, net: &Net, flow: &[u64], booked: &Answer) -> Resul
     let mut rest = units_on(alloc, net, booked)?;
     for e in 0..net.edges() {
         let most = flow[e as usize];
-        let booked = rest[e as usize];
-        if most < booked {
+        let units = rest[e as usize];
+        if most < units {
             return Err(GreedyFault::Overbooked {
                 edge: e,
-                booked,
+                booked: units,
                 flow: most,
             });
         }
-        rest[e as usize] = most - booked;
+        rest[e as usize] = most - units;
     }
     Ok(rest)
 }
