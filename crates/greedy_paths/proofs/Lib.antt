@@ -9,3 +9,4 @@ pub mod Booked
 pub mod BookedLists
 pub mod OneList
 pub mod Counting
+pub mod Building
