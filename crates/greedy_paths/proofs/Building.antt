@@ -1,7 +1,9 @@
 -- What is built on booked paths: it decomposes the flow, its entries are few and small, and no first answer has fewer.
-use Rattle.std.proofs.Common.{◌≡◌, ◌==◌, ℕ, ◌+◌, ◌*◌, ◌-◌, ◌^◌, ◌<◌, ◌≤◌, ◌&&◌, nat_le, nat_lt, true, List, [], ◌∷◌, ◌++◌, length, length-append, refl, sym, ap, ap₂, ◌∙◌, subst, arith, ltb-true, eqb-true}
+use Rattle.std.proofs.Common.{◌≡◌, ◌==◌, ℕ, ◌+◌, ◌*◌, ◌-◌, ◌^◌, ◌<◌, ◌≤◌, ◌&&◌, nat_le, nat_lt, true, List, [], ◌∷◌, ◌++◌, length, length-append, slice_index, refl, sym, ap, ap₂, ◌∙◌, subst, arith, ltb-true, eqb-true, inl, inr}
 use Rattle.std.specs.Prelude.{All}
 use Rattle.std.specs.List.{list_all}
+use Rattle.std.proofs.lemmas.Bool.{cases_lt}
+use Rattle.std.proofs.lemmas.List.{get_or_past}
 use Rattle.std.proofs.lemmas.List.Sums.{sum_by-append, sum_by-cons}
 use Rattle.decomposition.specs.Graph.{Graph, IsNet, edge_count, is_run, is_path}
 use Rattle.decomposition.specs.Answer.{IsAnswer, Covers, IsMerged, HaveSamePaths, weight_on, weight_of, total_weight}
@@ -14,7 +16,7 @@ use Rattle.decomposition.proofs.Merging.{IsAnswer-same_paths, Covers-same_paths,
 use Rattle.decomposition.proofs.Root.{all-place, all-parts}
 use Rattle.decomposition.proofs.Rules.{widest_first_is_unique}
 use Rattle.greedy_paths.specs.Booking.{AreBooked}
-use Rattle.greedy_paths.specs.Built.{IsBuiltOn, IsFirstPassed, IsLeastFirst, HasNoFirst}
+use Rattle.greedy_paths.specs.Built.{EndsWidestFirst, IsRest, IsBuiltOn, IsFirstPassed, IsLeastFirst, HasNoFirst}
 use Rattle.greedy_paths.specs.Laws.{BuiltOnBookedIsFirst}
 use Rattle.greedy_paths.proofs.Decomposing.{Decomposes-widest}
 use Rattle.greedy_paths.proofs.OneList.{booked_paths_are_one_list}
@@ -39,6 +41,21 @@ module _ (g : Graph) (flow : ℕ → ℕ) (booked others : List (List ℕ × ℕ
         omega (arith, made.1, positive_count-le g (λ e. flow e - weight_on booked e)),
       )
 
+-- booked paths, and behind them the widest-first list of what they leave
+pub record IsOver (g : Graph) (flow : ℕ → ℕ) (booked paths : List (List ℕ × ℕ)) : Type 0 where
+  pub others : List (List ℕ × ℕ)
+  pub is : paths ≡ booked ++ others
+  pub widest : IsWidestFirst g (λ e. flow e - weight_on booked e) others
+  pub made : Decomposes g flow paths
+  pub few : length others ≤ edge_count g
+
+pub IsOver-from : (g : Graph) (flow : ℕ → ℕ) (booked paths : List (List ℕ × ℕ)) (rest : List ℕ) → IsNet g → IsBalanced g flow → IsAnswer g booked → IsRest g flow booked rest → EndsWidestFirst g (slice_index rest) booked paths
+    → IsOver g flow booked paths
+IsOver-from g flow booked paths rest net balanced answer left (others, is, first) =
+    let widest = IsWidestFirst-same g (slice_index rest) (λ e. flow e - weight_on booked e) others left.each first in
+    let over = Decomposes-over g flow booked others net balanced answer left.fits widest in
+    record { others = others; is = is; widest = widest; made = subst (Decomposes g flow) (sym is) over.0; few = over.1 }
+
 -- what is made of a decomposition by merging is a decomposition
 pub Decomposes-merged : (g : Graph) (flow : ℕ → ℕ) (old new : List (List ℕ × ℕ)) → Decomposes g flow old → IsMerged old new → HaveSamePaths old new → Decomposes g flow new
 Decomposes-merged g flow old new made merged paths = record {
@@ -49,11 +66,13 @@ Decomposes-merged g flow old new made merged paths = record {
   positive k d there = ltb-true 0 _ (all-place (λ (entry : List ℕ × ℕ). nat_lt 0 entry.1) new d k merged.positive there)
 
 -- it has no more entries than what it is made of, and covers what the booked paths cover
-pub merged-few : (booked others a : List (List ℕ × ℕ)) → IsMerged (booked ++ others) a → length a ≤ length booked + length others
-merged-few booked others a merged = omega (arith, merged_least a (booked ++ others) merged.once merged.positive merged.same, length-append booked others)
+pub merged-few : (g : Graph) (flow : ℕ → ℕ) (booked paths a : List (List ℕ × ℕ)) → IsOver g flow booked paths → IsMerged paths a → length a ≤ edge_count g + length booked
+merged-few g flow booked paths a over merged =
+    omega (arith, merged_least a paths merged.once merged.positive merged.same, ap length over.is, length-append booked over.others, over.few)
 
-pub merged-covers : (rules : List (List ℕ)) (booked others a : List (List ℕ × ℕ)) → HaveSamePaths (booked ++ others) a → Covers rules booked → Covers rules a
-merged-covers rules booked others a paths covers = Covers-same_paths rules (booked ++ others) a paths (Covers-append rules booked others covers)
+pub merged-covers : (g : Graph) (flow : ℕ → ℕ) (booked paths a : List (List ℕ × ℕ)) → IsOver g flow booked paths → HaveSamePaths paths a → (rules : List (List ℕ)) → Covers rules booked → Covers rules a
+merged-covers g flow booked paths a over same rules covers =
+    Covers-same_paths rules paths a same (subst (Covers rules) (sym over.is) (Covers-append rules booked over.others covers))
 
 -- ---- the total weight
 
@@ -79,11 +98,22 @@ total_units (x ∷ a) units =
     let parts = all-parts (λ (entry : List ℕ × ℕ). entry.1 == 1) x a units in
     omega (arith, sum_by-cons (λ (entry : List ℕ × ℕ). entry.1) x a, eqb-true x.1 1 parts.0, total_units a parts.1)
 
+flow_small : (flow : List ℕ) → All (λ w. w ≤ 1000000000000) flow → (e : ℕ) → slice_index flow e ≤ 1000000000000
+flow_small flow small e =
+    elim (cases_lt e (length flow)) [ inl there ↦ small e 0 there | inr past ↦ omega (arith, get_or_past flow e 0 past) ]
+
 -- the total weight of booked paths and a widest-first list fits 64 bits
-pub total-fits : (g : Graph) (rest : ℕ → ℕ) (booked others : List (List ℕ × ℕ)) → list_all (λ entry. entry.1 == 1) booked ≡ true → length booked < 2 ^ 32 → ((e : ℕ) → rest e ≤ 1000000000000) → IsWidestFirst g rest others
-    → length others ≤ 4096 → total_weight (booked ++ others) < 2 ^ 64
-total-fits g rest booked others units few small widest short =
-    omega (arith, sum_by-append (λ (entry : List ℕ × ℕ). entry.1) booked others, total_units booked units, total_widest g rest others small widest)
+pub total-fits : (g : Graph) (flow : List ℕ) (booked paths : List (List ℕ × ℕ)) → list_all (λ entry. entry.1 == 1) booked ≡ true → length booked < 2 ^ 32 → All (λ w. w ≤ 1000000000000) flow → edge_count g ≤ 4096
+    → IsOver g (slice_index flow) booked paths → total_weight paths < 2 ^ 64
+total-fits g flow booked paths units few small short over =
+    omega (
+      arith,
+      ap total_weight over.is,
+      sum_by-append (λ (entry : List ℕ × ℕ). entry.1) booked over.others,
+      total_units booked units,
+      total_widest g (λ e. slice_index flow e - weight_on booked e) over.others (λ e. omega (arith, flow_small flow small e)) over.widest,
+      over.few,
+    )
 
 -- ---- first answers
 

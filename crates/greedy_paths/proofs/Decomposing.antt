@@ -139,6 +139,12 @@ LeavesRest-more g flow begun answer rest new p width left count widest is after 
 pub LeavesRest-all : (g : Graph) (flow : List ℕ) (begun answer : List (List ℕ × ℕ)) (rest : List ℕ) → LeavesRest g flow begun answer rest → ((p : List ℕ) → IsPath g p → path_width (slice_index rest) p ≡ 0) → EndsWidestFirst g (slice_index flow) begun answer
 LeavesRest-all g flow begun answer rest left none = (left.others, left.is, subst (IsWidestFirst g (slice_index flow)) (append-nil left.others) (left.goes_on [] none))
 
+-- a list that begins with nothing is widest first as a whole
+pub IsWidestFirst-whole : (g : Graph) (flow rest : List ℕ) (begun a : List (List ℕ × ℕ)) → begun ≡ [] → rest ≡ flow → EndsWidestFirst g (slice_index rest) begun a → IsWidestFirst g (slice_index flow) a
+IsWidestFirst-whole g flow rest begun a none same (others, is, widest) =
+    let whole : a ≡ others = is ∙ ap (λ xs. xs ++ others) none in
+    subst (IsWidestFirst g (slice_index flow)) (sym whole) (subst (λ r. IsWidestFirst g (slice_index r) others) same widest)
+
 -- the edges of a path are edges, each once, and have its width left
 module _ (g : Graph) (p : List ℕ) where
   stands : (k d : ℕ) → k < length p → has_edge p (slice_index_or p k d) ≡ true
