@@ -16,7 +16,9 @@ use Rattle.decomposition.proofs.Merging.{IsAnswer-same_paths, Covers-same_paths,
 use Rattle.decomposition.proofs.Root.{all-place, all-parts}
 use Rattle.decomposition.proofs.Rules.{widest_first_is_unique}
 use Rattle.greedy_paths.specs.Booking.{AreBooked}
-use Rattle.greedy_paths.specs.Built.{EndsWidestFirst, IsRest, IsBuiltOn, IsFirstPassed, IsLeastFirst, HasNoFirst}
+use Rattle.greedy_paths.specs.declared.greedy.GreedyFault.{GreedyFault}
+use Rattle.greedy_paths.specs.declared.greedy.GreedyFault.TheVariants.{Unbalanced, Overbooked, Memory}
+use Rattle.greedy_paths.specs.Built.{EndsWidestFirst, IsRest, IsBuiltOn, IsFirstPassed, HasNoFirst, IsRefusalOver, IsRefusalWith}
 use Rattle.greedy_paths.specs.Laws.{BuiltOnBookedIsFirst}
 use Rattle.greedy_paths.proofs.Decomposing.{Decomposes-widest}
 use Rattle.greedy_paths.proofs.OneList.{booked_paths_are_one_list}
@@ -117,12 +119,6 @@ total-fits g flow booked paths units few small short over =
 
 -- ---- first answers
 
--- what is built on the booked paths of rules is a first answer
-pub IsFirstAnswer-built : (g : Graph) (flow : ℕ → ℕ) (rules : List (List ℕ)) (booked a : List (List ℕ × ℕ)) → AreBooked g flow rules booked → IsBuiltOn g flow booked a → IsFirstAnswer g flow rules a
-IsFirstAnswer-built g flow rules booked a (paths, is, books) built =
-    let on : IsBuiltOn g flow (with_unit paths) a = subst (λ b. IsBuiltOn g flow b a) is built in
-    record { booked = paths; others = on.others; books = books; fits = on.fits; widest = on.widest; merged = on.merged }
-
 -- the booked paths of any first answer are the same
 booked-same : (g : Graph) (flow h k : ℕ → ℕ) (rules : List (List ℕ)) (booked b : List (List ℕ × ℕ)) → ((e : ℕ) → flow e ≡ h e) → ((e : ℕ) → flow e ≡ k e) → list_all (is_run g) rules ≡ true → AreBooked g h rules booked
     → (first : IsFirstAnswer g k rules b) → booked ≡ with_unit first.booked
@@ -140,8 +136,19 @@ built_on_booked_is_first g flow h rules booked a same runs are built k b also fi
     merged_least a b built.merged.once built.merged.positive (λ p. built.merged.same p ∙ (ap (λ xs. weight_of xs p) whole ∙ sym (first.merged.same p)))
 
 -- where their units pass the flow of an edge, there is no first answer
-pub HasNoFirst-passed : (g : Graph) (flow : ℕ → ℕ) (rules : List (List ℕ)) (booked : List (List ℕ × ℕ)) (e units most : ℕ) → list_all (is_run g) rules ≡ true → AreBooked g flow rules booked
-    → IsFirstPassed g flow booked e units most → HasNoFirst g flow rules
-HasNoFirst-passed g flow rules booked e units most runs are passed k b also first =
-    let on : booked ≡ with_unit first.booked = booked-same g flow flow k rules booked b (λ _. refl) also runs are first in
-    omega (arith, first.fits e passed.there, also e, ap (λ xs. weight_on xs e) on, passed.units_are, passed.most_is, passed.passed)
+module _ (g : Graph) (flow : ℕ → ℕ) (rules : List (List ℕ)) (booked : List (List ℕ × ℕ)) (runs : list_all (is_run g) rules ≡ true) where
+  HasNoFirst-passed : (e units most : ℕ) → AreBooked g flow rules booked → IsFirstPassed g flow booked e units most → HasNoFirst g flow rules
+  HasNoFirst-passed e units most are passed k b also first =
+      let on : booked ≡ with_unit first.booked = booked-same g flow flow k rules booked b (λ _. refl) also runs are first in
+      omega (arith, first.fits e passed.there, also e, ap (λ xs. weight_on xs e) on, passed.units_are, passed.most_is, passed.passed)
+
+  pub IsRefusalWith-over : AreBooked g flow rules booked → (fault : GreedyFault) → IsRefusalOver g flow booked fault → IsRefusalWith g flow rules fault
+  IsRefusalWith-over are (Unbalanced v) refusal = refusal
+  IsRefusalWith-over are (Overbooked e units most) refusal = record {
+    balanced = refusal.0;
+    booked = are.0;
+    books = are.2;
+    first = subst (λ b. IsFirstPassed g flow b e units most) are.1 refusal.1;
+    no_first = HasNoFirst-passed e units most are refusal.1;
+  }
+  IsRefusalWith-over are Memory refusal = tt
