@@ -18,7 +18,8 @@ use Rattle.decomposition.proofs.Rules.{widest_first_is_unique}
 use Rattle.greedy_paths.specs.Booking.{AreBooked}
 use Rattle.greedy_paths.specs.declared.greedy.GreedyFault.{GreedyFault}
 use Rattle.greedy_paths.specs.declared.greedy.GreedyFault.TheVariants.{Unbalanced, Overbooked, Memory}
-use Rattle.greedy_paths.specs.Built.{EndsWidestFirst, IsRest, IsBuiltOn, IsFirstPassed, HasNoFirst, IsRefusalOver, IsRefusalWith}
+use Rattle.greedy_paths.specs.Units.{IsRest}
+use Rattle.greedy_paths.specs.Built.{EndsWidestFirst, IsBuiltOn, IsFirstPassed, HasNoFirst, IsRefusalOver, IsRefusalWith}
 use Rattle.greedy_paths.specs.Laws.{BuiltOnBookedIsFirst}
 use Rattle.greedy_paths.proofs.Decomposing.{Decomposes-widest}
 use Rattle.greedy_paths.proofs.OneList.{booked_paths_are_one_list}
@@ -131,7 +132,7 @@ built_on_booked_is_first g flow h rules booked a same runs are built k b also fi
     let rest : (e : ℕ) → flow e - weight_on booked e ≡ k e - weight_on (with_unit first.booked) e = λ e. ap₂ (λ (x y : ℕ). x - y) (also e) (ap (λ xs. weight_on xs e) on) in
     let others : built.others ≡ first.others
     = widest_first_is_unique g (λ e. k e - weight_on (with_unit first.booked) e) built.others first.others
-      (IsWidestFirst-same g (λ e. flow e - weight_on booked e) (λ e. k e - weight_on (with_unit first.booked) e) built.others rest built.widest) first.widest in
+    (IsWidestFirst-same g (λ e. flow e - weight_on booked e) (λ e. k e - weight_on (with_unit first.booked) e) built.others rest built.widest) first.widest in
     let whole : booked ++ built.others ≡ with_unit first.booked ++ first.others = ap₂ (λ (xs ys : List (List ℕ × ℕ)). xs ++ ys) on others in
     merged_least a b built.merged.once built.merged.positive (λ p. built.merged.same p ∙ (ap (λ xs. weight_of xs p) whole ∙ sym (first.merged.same p)))
 

@@ -8,7 +8,8 @@ use Rattle.decomposition.specs.Graph.{Graph, IsPath, is_path, edge_count, has_ed
 use Rattle.decomposition.specs.Answer.{IsAnswer, entry_at, weight_on}
 use Rattle.decomposition.proofs.FewPaths.{weight_on-append}
 use Rattle.decomposition.proofs.Root.{all-place}
-use Rattle.greedy_paths.specs.Built.{AreUnits, IsRest, IsFirstPassed}
+use Rattle.greedy_paths.specs.Units.{AreUnits, IsRest}
+use Rattle.greedy_paths.specs.Built.{IsFirstPassed}
 use Rattle.greedy_paths.proofs.TakingOff.{not_before, or-none, has_edge-push}
 
 module _ (old : ℕ → ℕ) (path : List ℕ) (i : ℕ) (h : i < length path) where

@@ -1,5 +1,5 @@
 -- What booked paths and the rest of a flow give, and what is refused.
-use Rattle.std.specs.Prelude.{◌≡◌, ℕ, ◌-◌, ◌≤◌, ◌<◌, List, ◌++◌, length, slice_index}
+use Rattle.std.specs.Prelude.{◌≡◌, ℕ, ◌-◌, ◌≤◌, ◌<◌, List, ◌++◌, length}
 use Rattle.decomposition.specs.Graph.{Graph, edge_count}
 use Rattle.decomposition.specs.Answer.{weight_on, IsMerged}
 use Rattle.decomposition.specs.Flow.{IsBalanced, IsFirstUnbalanced}
@@ -11,17 +11,6 @@ use Rattle.greedy_paths.specs.declared.greedy.GreedyFault.TheVariants.{Unbalance
 abbrev pub EndsWidestFirst : Graph → (ℕ → ℕ) → List (List ℕ × ℕ) → List (List ℕ × ℕ) → Type 0
 EndsWidestFirst g flow begun a = (others : List (List ℕ × ℕ)) × (a ≡ begun ++ others) × IsWidestFirst g flow others
 
--- the units on each edge: the weight of the paths through it
-pub record AreUnits (g : Graph) (booked : List (List ℕ × ℕ)) (units : List ℕ) : Type 0 where
-  pub count : length units ≡ edge_count g
-  pub each : (e : ℕ) → e < edge_count g → slice_index units e ≡ weight_on booked e
-
--- what is left of a flow that no edge's units pass
-pub record IsRest (g : Graph) (flow : ℕ → ℕ) (booked : List (List ℕ × ℕ)) (rest : List ℕ) : Type 0 where
-  pub count : length rest ≡ edge_count g
-  pub fits : (e : ℕ) → e < edge_count g → weight_on booked e ≤ flow e
-  pub each : (e : ℕ) → slice_index rest e ≡ flow e - weight_on booked e
-
 -- edge e is the first whose units pass its flow, with both numbers
 pub record IsFirstPassed (g : Graph) (flow : ℕ → ℕ) (booked : List (List ℕ × ℕ)) (e units most : ℕ) : Type 0 where
   pub there : e < edge_count g
@@ -29,12 +18,6 @@ pub record IsFirstPassed (g : Graph) (flow : ℕ → ℕ) (booked : List (List �
   pub most_is : most ≡ flow e
   pub passed : most < units
   pub earlier : (d : ℕ) → d < e → weight_on booked d ≤ flow d
-
--- there is no rest where the units of an edge pass its flow; memory may always run out
-abbrev pub HasNoRest : Graph → (ℕ → ℕ) → List (List ℕ × ℕ) → GreedyFault → Type 0
-HasNoRest g flow booked (Unbalanced v) = ⊥
-HasNoRest g flow booked (Overbooked e units most) = IsFirstPassed g flow booked e units most
-HasNoRest g flow booked Memory = Unit {0}
 
 -- booked paths that pass the flow of no edge, and the widest-first list of the rest of the flow, merged
 pub record IsBuiltOn (g : Graph) (flow : ℕ → ℕ) (booked a : List (List ℕ × ℕ)) : Type 0 where

@@ -15,7 +15,12 @@ use std::alloc::{AllocError, Global};
 use subpath_rules::Rules;
 
 /// The edges from a source to `v`, each the one listed for its head.
-fn edges_back(alloc: Global, net: &Net, into: &[Option<u32>], v: u32) -> Result<Vec<u32>, AllocError>
+fn edges_back(
+    alloc: Global,
+    net: &Net,
+    into: &[Option<u32>],
+    v: u32,
+) -> Result<Vec<u32>, AllocError>
     requires vertex { v < net.now.vertices }
     requires net { IsNet net.now }
     requires listed { AreEdgesAt net.now (head net.now) into.now }
@@ -32,7 +37,12 @@ fn edges_back(alloc: Global, net: &Net, into: &[Option<u32>], v: u32) -> Result<
 }
 
 /// The edges from `v` to a sink, each the one listed for its tail.
-fn edges_forth(alloc: Global, net: &Net, out_of: &[Option<u32>], v: u32) -> Result<Vec<u32>, AllocError>
+fn edges_forth(
+    alloc: Global,
+    net: &Net,
+    out_of: &[Option<u32>],
+    v: u32,
+) -> Result<Vec<u32>, AllocError>
     requires vertex { v < net.now.vertices }
     requires net { IsNet net.now }
     requires listed { AreEdgesAt net.now (tail net.now) out_of.now }
@@ -58,7 +68,12 @@ fn add_all(path: &mut Ids, edges: &[u32]) -> Result<(), AllocError>
 }
 
 /// The booked path of a run: the edges back to a source, the run, and the edges forth to a sink.
-fn booked_path(alloc: Global, net: &Net, greatest: &GreatestEdges, run: &[u32]) -> Result<Ids, AllocError>
+fn booked_path(
+    alloc: Global,
+    net: &Net,
+    greatest: &GreatestEdges,
+    run: &[u32],
+) -> Result<Ids, AllocError>
     requires net { IsNet net.now }
     requires edges { AreEdges net.now greatest.now }
     requires run { IsRun net.now run.now }

@@ -57,7 +57,12 @@ pub fn decompose(alloc: Global, net: &Net, flow: &[u64]) -> Result<Answer, Greed
 }
 
 /// The booked paths, and the widest-first list of what they leave of the flow, with equal paths made one, in report order.
-pub fn decompose_over(alloc: Global, net: &Net, flow: &[u64], booked: Answer) -> Result<Answer, GreedyFault>
+pub fn decompose_over(
+    alloc: Global,
+    net: &Net,
+    flow: &[u64],
+    booked: Answer,
+) -> Result<Answer, GreedyFault>
     requires one_each { length flow.now ≡ edge_count net.now }
     requires small { All (λ w. w ≤ 1000000000000) flow.now }
     requires answer { IsAnswer net.now booked }
@@ -70,9 +75,6 @@ pub fn decompose_over(alloc: Global, net: &Net, flow: &[u64], booked: Answer) ->
     ensures built { IfOk result (IsBuiltOn net.now (slice_index flow.now) booked) }
     ensures refusal { IfErr result (IsRefusalOver net.now (slice_index flow.now) booked) }
 {
-    if let Some(vertex) = net.first_unbalanced(alloc, flow)? {
-        return Err(GreedyFault::Unbalanced { vertex });
-    }
     prove!(net.edges() <= 4096);
     let rest = rest_of(alloc, net, flow, &booked)?;
     let paths = add_widest(alloc, net, rest, booked)?;
@@ -82,7 +84,12 @@ pub fn decompose_over(alloc: Global, net: &Net, flow: &[u64], booked: Answer) ->
 
 /// The booked paths of the rules, and the widest-first list of what they leave of the flow, with equal paths made one,
 /// in report order.
-pub fn decompose_with(alloc: Global, net: &Net, flow: &[u64], rules: &Rules) -> Result<Answer, GreedyFault>
+pub fn decompose_with(
+    alloc: Global,
+    net: &Net,
+    flow: &[u64],
+    rules: &Rules,
+) -> Result<Answer, GreedyFault>
     requires one_each { length flow.now ≡ edge_count net.now }
     requires small { All (λ w. w ≤ 1000000000000) flow.now }
     requires runs { IsTrue (list_all (is_run net.now) rules.now) }
@@ -100,7 +107,12 @@ pub fn decompose_with(alloc: Global, net: &Net, flow: &[u64], rules: &Rules) -> 
 }
 
 /// Adds the widest path of what the earlier ones leave, and its width, until no path is left.
-fn add_widest(alloc: Global, net: &Net, mut rest: Vec<u64>, mut answer: Answer) -> Result<Answer, AllocError>
+fn add_widest(
+    alloc: Global,
+    net: &Net,
+    mut rest: Vec<u64>,
+    mut answer: Answer,
+) -> Result<Answer, AllocError>
     requires { length rest.items ≡ edge_count net.now }
     ensures widest { IfOk result (EndsWidestFirst net.now (slice_index rest.items) answer) }
     ensures net { IfOk result (λ _. IsNet net.now) }

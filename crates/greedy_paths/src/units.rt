@@ -2,9 +2,11 @@
 
 ghost use Rattle.std.specs.Prelude.{◌≡◌, ◌≢◌, ℕ, ◌+◌, ◌<◌, ◌≤◌, ◌^◌, ◌==◌, cond, length, slice_index, All, AllPairs, IfOk, IfErr, IsTrue};
 ghost use Rattle.std.specs.List.{list_all};
-ghost use Rattle.decomposition.specs.Graph.{IsNet, edge_count, has_edge};
+ghost use Rattle.decomposition.specs.Graph.{edge_count, has_edge};
 ghost use Rattle.decomposition.specs.Answer.{IsAnswer};
-ghost use Rattle.greedy_paths.specs.Built.{AreUnits, IsRest, HasNoRest};
+ghost use Rattle.decomposition.specs.Flow.{IsBalanced};
+ghost use Rattle.greedy_paths.specs.Units.{AreUnits, IsRest};
+ghost use Rattle.greedy_paths.specs.Built.{IsRefusalOver};
 
 use crate::greedy::GreedyFault;
 use dag_net::{Answer, Net};
@@ -36,15 +38,26 @@ fn units_on(alloc: Global, net: &Net, booked: &Answer) -> Result<Vec<u64>, Alloc
     Ok(units)
 }
 
-/// What the booked units leave of the flow, or the first edge that has more of them than flow.
-pub fn rest_of(alloc: Global, net: &Net, flow: &[u64], booked: &Answer) -> Result<Vec<u64>, GreedyFault>
+/// What the booked units leave of a balanced flow. An unbalanced vertex is refused first, then an edge with more
+/// units than flow.
+pub fn rest_of(
+    alloc: Global,
+    net: &Net,
+    flow: &[u64],
+    booked: &Answer,
+) -> Result<Vec<u64>, GreedyFault>
     requires one_each { length flow.now ≡ edge_count net.now }
+    requires small { All (λ w. w ≤ 1000000000000) flow.now }
     requires answer { IsAnswer net.now booked.now }
     requires units { IsTrue (list_all (λ entry. entry.1 == 1) booked.now) }
     requires few { length booked.now < 2 ^ 32 }
+    ensures balanced { IfOk result (λ _. IsBalanced net.now (slice_index flow.now)) }
     ensures rest { IfOk result (λ rest. IsRest net.now (slice_index flow.now) booked.now rest.items) }
-    ensures none { IfErr result (HasNoRest net.now (slice_index flow.now) booked.now) }
+    ensures refusal { IfErr result (IsRefusalOver net.now (slice_index flow.now) booked.now) }
 {
+    if let Some(vertex) = net.first_unbalanced(alloc, flow)? {
+        return Err(GreedyFault::Unbalanced { vertex });
+    }
     let mut rest = units_on(alloc, net, booked)?;
     for e in 0..net.edges() {
         let most = flow[e as usize];

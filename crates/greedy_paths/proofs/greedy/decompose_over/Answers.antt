@@ -6,8 +6,7 @@ use Rattle.greedy_paths.proofs.greedy.decompose_over.Goals.{In_ok-paths}
 -- the booked paths, and the widest-first list of the rest
 over : (c : In_ok-paths) → IsOver c.args.net.now (slice_index c.args.flow.now) c.args.booked c.in_ok-paths.paths
 over c =
-    let balanced = rw c.in_default.is at c.in_ok-vertex.ensures.balanced in
-    IsOver-from c.args.net.now (slice_index c.args.flow.now) c.args.booked c.in_ok-paths.paths c.in_ok-rest.rest.items c.in_ok-paths.ensures.net balanced c.requires.answer c.in_ok-rest.ensures.rest c.in_ok-paths.ensures.widest
+    IsOver-from c.args.net.now (slice_index c.args.flow.now) c.args.booked c.in_ok-paths.paths c.in_ok-rest.rest.items c.in_ok-paths.ensures.net c.in_ok-rest.ensures.balanced c.requires.answer c.in_ok-rest.ensures.rest c.in_ok-paths.ensures.widest
 
 pub tidy-requires : goal.tidy-requires
 tidy-requires c =
