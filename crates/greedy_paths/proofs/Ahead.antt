@@ -83,26 +83,12 @@ module _ (end flow : ℕ → ℕ) where
     ];
   }
 
-  -- an edge that was found is one of those gone over
-  pub IsGreatestAt-inside : (n count h : ℕ) (read : Option ℕ) (found : List (Option ℕ)) → h < n → read ≡ slice_index_or found h None → AreGreatestAt end flow n count found
-      → MatchOption read (Unit {0}) (λ d. d < count)
-  IsGreatestAt-inside n count h read found there reads so_far = go read (subst (IsGreatestAt end flow count h) (sym reads) (so_far.at h there)) where
-    go : (read : Option ℕ) → IsGreatestAt end flow count h read → MatchOption read (Unit {0}) (λ d. d < count)
-    go None greatest = tt
-    go (Some d) greatest = greatest.0
-
 -- the greatest edges are edges with these ends
 AreEdgesAt-from : (g : Graph) (end flow : ℕ → ℕ) (found : List (Option ℕ)) → AreGreatestAt end flow g.vertices (edge_count g) found → AreEdgesAt g end found
 AreEdgesAt-from g end flow found greatest = record { room = greatest.room; at = λ v there. go v (slice_index_or found v None) (greatest.at v there) } where
   go : (v : ℕ) (read : Option ℕ) → IsGreatestAt end flow (edge_count g) v read → MatchOption read ((e : ℕ) → e < edge_count g → end e ≢ v) (λ e. (e < edge_count g) × (end e ≡ v))
   go v None none = none
   go v (Some e) greatest = (greatest.0, greatest.1)
-
-pub AreEdges-from : (g : Graph) (flow : ℕ → ℕ) (edges : GreatestEdges) → AreGreatest g flow edges → AreEdges g edges
-AreEdges-from g flow edges greatest = record {
-  into = AreEdgesAt-from g (head g) flow edges.into.items greatest.into;
-  out_of = AreEdgesAt-from g (tail g) flow edges.out_of.items greatest.out_of;
-}
 
 -- an edge that is listed for its end is ahead of all others there
 pub ahead-from_listed : (g : Graph) (end flow : ℕ → ℕ) (found : List (Option ℕ)) → AreGreatestAt end flow g.vertices (edge_count g) found → (e : ℕ) → IsListed end found e

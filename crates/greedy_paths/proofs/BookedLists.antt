@@ -93,9 +93,6 @@ module _ (g : Graph) (flow : ℕ → ℕ) where
       pub is : a ≡ with_unit booked
       pub goes_on : (more : List (List ℕ)) → Books g flow booked (drop i rules) more → IsBooked g flow rules (booked ++ more)
 
-    pub AreBegun-start : AreBegun 0 []
-    AreBegun-start = record { booked = []; is = refl; goes_on = λ more books. books }
-
     rule_first : (i : ℕ) → i < length rules → drop i rules ≡ slice_index_or rules i [] ∷ drop (i + 1) rules
     rule_first i there = rw (add-one) (drop-cons rules i [] there)
 

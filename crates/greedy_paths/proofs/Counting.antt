@@ -44,9 +44,6 @@ module _ (g : Graph) (booked : List (List ℕ × ℕ)) where
     pub of_entries : AreUnits g (take i booked) units
     pub small : (e : ℕ) → slice_index units e ≤ i
 
-  pub CountsUnits-start : (units : List ℕ) → length units ≡ edge_count g → ((e : ℕ) → slice_index units e ≡ 0) → CountsUnits 0 units
-  CountsUnits-start units count none = record { of_entries = record { count = count; each = λ e there. none e }; small = λ e. omega (arith, none e) }
-
   one_more : (b : List ℕ) (e : ℕ) → cond (has_edge b e) 1 0 ≤ 1
   one_more b e = grind arith
 
@@ -71,9 +68,6 @@ module _ (g : Graph) (booked : List (List ℕ × ℕ)) where
       pub fits : (d : ℕ) → d < e → weight_on booked d ≤ slice_index flow d
       pub left : (d : ℕ) → d < e → slice_index rest d ≡ slice_index flow d - weight_on booked d
       pub ahead : (d : ℕ) → e ≤ d → d < edge_count g → slice_index rest d ≡ weight_on booked d
-
-    pub LeavesUnits-start : (units : List ℕ) → AreUnits g booked units → LeavesUnits 0 units
-    LeavesUnits-start units are = record { count = are.count; fits = λ d h. absurd (omega arith); left = λ d h. absurd (omega arith); ahead = λ d from there. are.each d there }
 
     pub LeavesUnits-more : (e : ℕ) (rest : List ℕ) → e < edge_count g → slice_index rest e ≤ slice_index flow e → LeavesUnits e rest → LeavesUnits (e + 1) (slice_set rest e (slice_index flow e - slice_index rest e))
     LeavesUnits-more e rest there enough so_far = record {

@@ -29,12 +29,6 @@ module _ (g : Graph) (into : List (Option ℕ)) (v : ℕ) where
     pub end : walk_end g at (reverse back) ≡ v
     pub listed : AllByRecursion (IsListed (head g) into) (reverse back)
 
-  pub LeadsBack-start : v < g.vertices → (next : Option ℕ) → slice_index_or into v None ≡ next → LeadsBack [] next
-  LeadsBack-start there next is = record { at = v; vertex = there; here = is; walk = refl; end = refl; listed = tt }
-
-  pub LeadsBack-inside : AreEdgesAt g (head g) into → (back : List ℕ) (e : ℕ) → LeadsBack back (Some e) → e < edge_count g
-  LeadsBack-inside edges back e b = (listed_edge g (head g) into b.at e edges b.vertex b.here).0
-
   pub LeadsBack-more : IsNet g → AreEdgesAt g (head g) into → (back : List ℕ) (e : ℕ) (next : Option ℕ) → LeadsBack back (Some e) → slice_index_or into (tail g e) None ≡ next → LeadsBack (back ++ e ∷ []) next
   LeadsBack-more net edges back e next b is =
       let edge = listed_edge g (head g) into b.at e edges b.vertex b.here in
@@ -73,12 +67,6 @@ module _ (g : Graph) (out_of : List (Option ℕ)) (v : ℕ) where
     pub here : slice_index_or out_of (walk_end g v forth) None ≡ next
     pub walk : is_walk_from g v forth ≡ true
     pub listed : AllByRecursion (IsListed (tail g) out_of) forth
-
-  pub LeadsForth-start : v < g.vertices → (next : Option ℕ) → slice_index_or out_of v None ≡ next → LeadsForth [] next
-  LeadsForth-start there next is = record { vertex = there; here = is; walk = refl; listed = tt }
-
-  pub LeadsForth-inside : AreEdgesAt g (tail g) out_of → (forth : List ℕ) (e : ℕ) → LeadsForth forth (Some e) → e < edge_count g
-  LeadsForth-inside edges forth e f = (listed_edge g (tail g) out_of (walk_end g v forth) e edges f.vertex f.here).0
 
   pub LeadsForth-more : IsNet g → AreEdgesAt g (tail g) out_of → (forth : List ℕ) (e : ℕ) (next : Option ℕ) → LeadsForth forth (Some e) → slice_index_or out_of (head g e) None ≡ next → LeadsForth (forth ++ e ∷ []) next
   LeadsForth-more net edges forth e next f is =
