@@ -83,13 +83,6 @@ module _ (end flow : ℕ → ℕ) where
     ];
   }
 
--- the greatest edges are edges with these ends
-AreEdgesAt-from : (g : Graph) (end flow : ℕ → ℕ) (found : List (Option ℕ)) → AreGreatestAt end flow g.vertices (edge_count g) found → AreEdgesAt g end found
-AreEdgesAt-from g end flow found greatest = record { room = greatest.room; at = λ v there. go v (slice_index_or found v None) (greatest.at v there) } where
-  go : (v : ℕ) (read : Option ℕ) → IsGreatestAt end flow (edge_count g) v read → MatchOption read ((e : ℕ) → e < edge_count g → end e ≢ v) (λ e. (e < edge_count g) × (end e ≡ v))
-  go v None none = none
-  go v (Some e) greatest = (greatest.0, greatest.1)
-
 -- an edge that is listed for its end is ahead of all others there
 pub ahead-from_listed : (g : Graph) (end flow : ℕ → ℕ) (found : List (Option ℕ)) → AreGreatestAt end flow g.vertices (edge_count g) found → (e : ℕ) → IsListed end found e
     → (f : ℕ) → f < edge_count g → end f ≡ end e → IsAhead flow e f

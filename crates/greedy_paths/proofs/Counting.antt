@@ -68,38 +68,3 @@ module _ (g : Graph) (booked : List (List ℕ × ℕ)) where
       pub fits : (d : ℕ) → d < e → weight_on booked d ≤ slice_index flow d
       pub left : (d : ℕ) → d < e → slice_index rest d ≡ slice_index flow d - weight_on booked d
       pub ahead : (d : ℕ) → e ≤ d → d < edge_count g → slice_index rest d ≡ weight_on booked d
-
-    pub LeavesUnits-more : (e : ℕ) (rest : List ℕ) → e < edge_count g → slice_index rest e ≤ slice_index flow e → LeavesUnits e rest → LeavesUnits (e + 1) (slice_set rest e (slice_index flow e - slice_index rest e))
-    LeavesUnits-more e rest there enough so_far = record {
-      count = length-set rest e (slice_index flow e - slice_index rest e) ∙ so_far.count;
-      fits = λ d h. elim (cases_eq d e) [
-        | inl same ↦ rw same (omega (arith, so_far.ahead e (omega arith) there))
-        | inr before ↦ so_far.fits d (omega arith)
-      ];
-      left = λ d h. elim (cases_eq d e) [
-        | inl same ↦
-            rw same (omega (
-              arith,
-              get_or-set_same rest e (slice_index flow e - slice_index rest e) 0 (omega (arith, so_far.count)),
-              so_far.ahead e (omega arith) there,
-            ))
-        | inr before ↦ get_or-set_other rest e d (slice_index flow e - slice_index rest e) 0 before ∙ so_far.left d (omega arith)
-      ];
-      ahead = λ d from inside.
-          let other : d ≢ e = omega arith in
-          get_or-set_other rest e d (slice_index flow e - slice_index rest e) 0 other ∙ so_far.ahead d (omega arith) inside;
-    }
-
-    pub LeavesUnits-all : (e : ℕ) (rest : List ℕ) → edge_count g ≤ e → length flow ≡ edge_count g → LeavesUnits e rest → IsRest g (slice_index flow) booked rest
-    LeavesUnits-all e rest past one_each so_far = record {
-      count = so_far.count;
-      fits = λ d there. so_far.fits d (omega arith);
-      each = λ d. elim (cases_lt d (edge_count g)) [
-        | inl there ↦ so_far.left d (omega arith)
-        | inr behind ↦ omega (arith, get_or_past rest d 0 (omega (arith, so_far.count)), get_or_past flow d 0 (omega arith))
-      ];
-    }
-
-    -- an edge whose units pass its flow, where all before it fit
-    pub IsFirstPassed-at : (e : ℕ) (rest : List ℕ) → e < edge_count g → slice_index flow e < slice_index rest e → LeavesUnits e rest → IsFirstPassed g (slice_index flow) booked e (slice_index rest e) (slice_index flow e)
-    IsFirstPassed-at e rest there passed so_far = record { there = there; units_are = so_far.ahead e (omega arith) there; most_is = refl; passed = passed; earlier = so_far.fits }
