@@ -1,11 +1,10 @@
 -- The edge of greatest flow at each vertex, edge by edge.
-use Rattle.std.proofs.Common.{◌≡◌, ◌≢◌, ℕ, ◌+◌, ◌<◌, ◌≤◌, List, Option, None, Some, MatchOption, length, slice_index_or, slice_set, refl, sym, ap, ◌∙◌, subst, arith, inl, inr, get_or-set_same, get_or-set_other}
+use Rattle.std.proofs.Common.{◌≡◌, ◌≢◌, ℕ, ◌+◌, ◌<◌, ◌≤◌, List, Option, None, Some, length, replicate, slice_index_or, slice_set, sym, ap, ◌∙◌, subst, arith, inl, inr, get_or-set_same, get_or-set_other}
 use Rattle.std.proofs.lemmas.Bool.{cases_eq, cases_lt}
-use Rattle.std.proofs.lemmas.List.{length-set, get_or_past}
-use Rattle.decomposition.specs.Graph.{Graph, edge_count, tail, head}
-use Rattle.greedy_paths.specs.declared.greatest.GreatestEdges.{GreatestEdges}
-use Rattle.greedy_paths.specs.Greatest.{IsAhead, IsGreater, IsGreatestAt, AreGreatestAt, AreGreatest}
-use Rattle.greedy_paths.specs.Booking.{AreEdgesAt, AreEdges, IsListed}
+use Rattle.std.proofs.lemmas.List.{length-set, length-replicate, get_or-replicate, get_or_past}
+use Rattle.decomposition.specs.Graph.{Graph, edge_count}
+use Rattle.greedy_paths.specs.Greatest.{IsAhead, IsGreater, IsGreatestAt, AreGreatestAt}
+use Rattle.greedy_paths.specs.Booking.{IsListed}
 
 module _ (end flow : ℕ → ℕ) where
   -- an edge with another end changes nothing
@@ -65,6 +64,14 @@ module _ (end flow : ℕ → ℕ) where
         | inl kept ↦ subst (λ e. IsGreatestAt end flow (count + 1) v (Some e)) (sym kept.0) (IsGreatestAt-kept count v d kept.1 greatest)
         | inr taken ↦ subst (λ e. IsGreatestAt end flow (count + 1) v (Some e)) (sym taken.0) (IsGreatestAt-taken count v d at taken.1 greatest)
       ]
+
+  -- before the first edge none is found
+  pub AreGreatestAt-none : (n m : ℕ) (found : List (Option ℕ)) → m ≡ n → found ≡ replicate m None → AreGreatestAt end flow n 0 found
+  AreGreatestAt-none n m found same is =
+      subst (AreGreatestAt end flow n 0) (sym (is ∙ ap (λ k. replicate k None) same)) (record {
+        room = length-replicate n None;
+        at = λ v there. subst (IsGreatestAt end flow 0 v) (sym (get_or-replicate n v None None there)) (λ e h. absurd (omega arith));
+      })
 
   -- one more edge is compared with the greatest at its end
   pub AreGreatestAt-more : (n count h now : ℕ) (read : Option ℕ) (found : List (Option ℕ)) → h ≡ end count → h < length found → read ≡ slice_index_or found h None → IsGreater flow read count now

@@ -1,6 +1,5 @@
 -- The booked path of a run, in its three parts.
 use Rattle.std.proofs.Common.{◌≡◌, ℕ, ◌-◌, true, List, [], ◌∷◌, ◌++◌, length, slice_index, refl, sym, ap, ◌∙◌, subst, append_assoc, arith}
-use Rattle.std.specs.Prelude.{IsTrue}
 use Rattle.std.proofs.lemmas.Bool.{and_from, both_ways}
 use Rattle.decomposition.specs.Graph.{Graph, IsRun, IsPath, tail, head, is_source, is_sink, is_run, is_walk_from, walk_end}
 use Rattle.decomposition.specs.FirstAnswer.{IsBookedPath}

@@ -10,7 +10,7 @@ use Rattle.decomposition.specs.Answer.{IsAnswer, Covers, IsMerged, HaveSamePaths
 use Rattle.decomposition.specs.Flow.{IsBalanced, Decomposes, rest_after}
 use Rattle.decomposition.specs.FirstAnswer.{IsFirstAnswer, IsWidestFirst, path_width, with_unit}
 use Rattle.decomposition.proofs.Balance.{IsBalanced-same, IsBalanced-cancel, weight_on-balanced}
-use Rattle.decomposition.proofs.FewPaths.{positive_count, positive_count-le, weight_on-append, all-append, Covers-append}
+use Rattle.decomposition.proofs.FewPaths.{positive_count-le, weight_on-append, all-append, Covers-append}
 use Rattle.decomposition.proofs.FirstAnswers.{merged_least, IsWidestFirst-same}
 use Rattle.decomposition.proofs.Merging.{IsAnswer-same_paths, Covers-same_paths, weight_on-IsMerged}
 use Rattle.decomposition.proofs.Root.{all-place, all-parts}
@@ -19,7 +19,7 @@ use Rattle.greedy_paths.specs.Booking.{AreBooked}
 use Rattle.greedy_paths.specs.declared.greedy.GreedyFault.{GreedyFault}
 use Rattle.greedy_paths.specs.declared.greedy.GreedyFault.TheVariants.{Unbalanced, Overbooked, Memory}
 use Rattle.greedy_paths.specs.Units.{IsRest}
-use Rattle.greedy_paths.specs.Built.{EndsWidestFirst, IsBuiltOn, IsFirstPassed, HasNoFirst, IsRefusalOver, IsRefusalWith}
+use Rattle.greedy_paths.specs.Built.{EndsWidestFirst, IsFirstPassed, HasNoFirst, IsRefusalOver, IsRefusalWith}
 use Rattle.greedy_paths.specs.Laws.{BuiltOnBookedIsFirst}
 use Rattle.greedy_paths.proofs.Decomposing.{Decomposes-widest}
 use Rattle.greedy_paths.proofs.OneList.{booked_paths_are_one_list}

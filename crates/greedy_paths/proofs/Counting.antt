@@ -1,15 +1,14 @@
 -- The units of booked paths, counted on each edge, and what they leave of a flow.
-use Rattle.std.proofs.Common.{◌≡◌, ◌≢◌, ◌==◌, ℕ, ◌+◌, ◌-◌, ◌<◌, ◌≤◌, ◌&&◌, nat_le, cond, true, List, [], ◌∷◌, ◌++◌, length, take, slice_index, slice_set, get_or, get_or-set_same, get_or-set_other, length-set, refl, sym, ap, ◌∙◌, subst, ⊎_elim, arith, inl, inr, eqb-true, eq-eqb, ne_eqb}
+use Rattle.std.proofs.Common.{◌≡◌, ◌≢◌, ◌==◌, ℕ, ◌+◌, ◌-◌, ◌<◌, ◌≤◌, ◌&&◌, nat_le, cond, true, List, [], ◌∷◌, ◌++◌, length, take, slice_index, slice_set, get_or-set_same, get_or-set_other, refl, sym, ap, ◌∙◌, ⊎_elim, arith, eqb-true, eq-eqb, ne_eqb}
 use Rattle.std.specs.Prelude.{AllPairs}
 use Rattle.std.specs.List.{list_all}
-use Rattle.std.proofs.lemmas.Bool.{cases_eq, cases_lt, and_parts}
-use Rattle.std.proofs.lemmas.List.{take_more, get_or_past}
+use Rattle.std.proofs.lemmas.Bool.{cases_eq, and_parts}
+use Rattle.std.proofs.lemmas.List.{take_more}
 use Rattle.decomposition.specs.Graph.{Graph, IsPath, is_path, edge_count, has_edge}
 use Rattle.decomposition.specs.Answer.{IsAnswer, entry_at, weight_on}
 use Rattle.decomposition.proofs.FewPaths.{weight_on-append}
 use Rattle.decomposition.proofs.Root.{all-place}
-use Rattle.greedy_paths.specs.Units.{AreUnits, IsRest}
-use Rattle.greedy_paths.specs.Built.{IsFirstPassed}
+use Rattle.greedy_paths.specs.Units.{AreUnits}
 use Rattle.greedy_paths.proofs.TakingOff.{not_before, or-none, has_edge-push}
 
 module _ (old : ℕ → ℕ) (path : List ℕ) (i : ℕ) (h : i < length path) where

@@ -1,5 +1,5 @@
 -- Walks by the edges that are listed for each vertex, back to a source and forth to a sink.
-use Rattle.std.proofs.Common.{◌≡◌, ◌≢◌, ℕ, ◌+◌, ◌<◌, ◌≤◌, List, [], ◌∷◌, ◌++◌, Option, None, Some, MatchOption, true, false, length, length-append, slice_index_or, refl, sym, ap, ◌∙◌, subst, arith, inl, inr}
+use Rattle.std.proofs.Common.{◌≡◌, ◌≢◌, ℕ, ◌<◌, List, [], ◌∷◌, ◌++◌, Option, None, Some, MatchOption, true, length, length-append, slice_index_or, refl, sym, subst, arith, inl, inr}
 use Rattle.std.specs.Prelude.{reverse}
 use Rattle.std.specs.List.{AllByRecursion}
 use Rattle.std.proofs.lemmas.Bool.{cases_Bool}
