@@ -2,6 +2,8 @@
 #![tactic(auto)]
 
 #[cfg(test)]
+mod booked;
+#[cfg(test)]
 mod calls;
 #[cfg(test)]
 mod diamonds;
