@@ -1,6 +1,6 @@
 //! Booked paths, and the decompositions over them.
 
-ghost use Rattle.std.specs.Prelude.{◌≡◌, ◌≤◌, length, All, IfOk, IsTrue, OnTrue};
+ghost use Rattle.std.specs.Prelude.{◌≡◌, ◌≤◌, length, All, IfOk, IsTrue};
 ghost use Rattle.std.specs.List.{list_all};
 ghost use Rattle.decomposition.specs.Graph.{edge_count, is_run};
 
@@ -60,8 +60,8 @@ fn rules_of(alloc: Global, net: &Net, runs: &[&[u32]]) -> Result<Rules, Fail>
 
 /// Whether there is one number for each edge, and none is too great.
 fn is_flow(net: &Net, flow: &[u64]) -> bool
-    ensures one_each { OnTrue result (length flow.now ≡ edge_count net.now) }
-    ensures small { OnTrue result (All (λ w. w ≤ 1000000000000) flow.now) }
+    ensures one_each { IsTrue result → length flow.now ≡ edge_count net.now }
+    ensures small { IsTrue result → All (λ w. w ≤ 1000000000000) flow.now }
 {
     flow.len() == net.edges() as usize && flow.iter().all(|w| *w <= 1_000_000_000_000)
 }
