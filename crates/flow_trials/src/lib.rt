@@ -4,6 +4,7 @@
 #[cfg(test)]
 mod bounds;
 #[cfg(test)]
+mod booked;
 mod calls;
 #[cfg(test)]
 mod diamonds;

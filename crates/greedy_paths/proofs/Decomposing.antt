@@ -19,6 +19,7 @@ use Rattle.decomposition.proofs.Flows.{flows_have_emptying_paths}
 use Rattle.decomposition.proofs.Balance.{rest_after-balanced}
 use Rattle.decomposition.proofs.FewPaths.{positive_count, fewer, sums_more}
 use Rattle.greedy_paths.specs.Greedy.{positive_edges}
+use Rattle.greedy_paths.specs.Built.{EndsWidestFirst}
 use Rattle.greedy_paths.proofs.Finding.{path-ends}
 
 -- the width of a path is at most the rest of each of its edges, and one of them has just that
@@ -113,26 +114,39 @@ positive_count-list g flow same = ap (sum_below (λ e. cond (nat_lt 0 (slice_ind
       sum_below_first (λ e. cond (nat_lt 0 (slice_index (w ∷ ws) e)) 1 0) (length ws) ∙ ap (λ n. cond (nat_lt 0 w) 1 0 + n) (go ws)
       ∙ sym (sum_by-cons (λ v. cond (nat_lt 0 v) 1 0) w ws)
 
--- a list of widest paths that is begun, and what it leaves
-pub record LeavesRest (g : Graph) (flow : List ℕ) (answer : List (List ℕ × ℕ)) (rest : List ℕ) : Type 0 where
+-- a list that goes on with widest paths, and what they leave
+pub record LeavesRest (g : Graph) (flow : List ℕ) (begun answer : List (List ℕ × ℕ)) (rest : List ℕ) : Type 0 where
   pub count : length rest ≡ edge_count g
-  pub goes_on : (more : List (List ℕ × ℕ)) → IsWidestFirst g (slice_index rest) more → IsWidestFirst g (slice_index flow) (answer ++ more)
+  pub others : List (List ℕ × ℕ)
+  pub is : answer ≡ begun ++ others
+  pub goes_on : (more : List (List ℕ × ℕ)) → IsWidestFirst g (slice_index rest) more → IsWidestFirst g (slice_index flow) (others ++ more)
 
-pub LeavesRest-more : (g : Graph) (flow : List ℕ) (answer : List (List ℕ × ℕ)) (rest new p : List ℕ) (width : ℕ) → LeavesRest g flow answer rest → length new ≡ length rest → IsWidest g (slice_index rest) p → width ≡ path_width (slice_index rest) p
-    → ((e : ℕ) → slice_index new e ≡ rest_after (slice_index rest) p width e) → LeavesRest g flow (answer ++ (p, width) ∷ []) new
-LeavesRest-more g flow answer rest new p width left count widest is after = record {
+pub LeavesRest-start : (g : Graph) (flow : List ℕ) (begun : List (List ℕ × ℕ)) → length flow ≡ edge_count g → LeavesRest g flow begun begun flow
+LeavesRest-start g flow begun count = record { count = count; others = []; is = sym (append-nil begun); goes_on = λ more first. first }
+
+pub LeavesRest-more : (g : Graph) (flow : List ℕ) (begun answer : List (List ℕ × ℕ)) (rest new p : List ℕ) (width : ℕ) → LeavesRest g flow begun answer rest → length new ≡ length rest → IsWidest g (slice_index rest) p → width ≡ path_width (slice_index rest) p
+    → ((e : ℕ) → slice_index new e ≡ rest_after (slice_index rest) p width e) → LeavesRest g flow begun (answer ++ (p, width) ∷ []) new
+LeavesRest-more g flow begun answer rest new p width left count widest is after = record {
   count = count ∙ left.count;
+  others = left.others ++ (p, width) ∷ [];
+  is = ap (λ xs. xs ++ (p, width) ∷ []) left.is ∙ append_assoc begun left.others ((p, width) ∷ []);
   goes_on = λ more first.
       let equal : slice_index new ≡ rest_after (slice_index rest) p width = λ i e. after e i in
-      subst (IsWidestFirst g (slice_index flow)) (sym (append_assoc answer ((p, width) ∷ []) more))
+      subst (IsWidestFirst g (slice_index flow)) (sym (append_assoc left.others ((p, width) ∷ []) more))
       (left.goes_on ((p, width) ∷ more) (widest, is, subst (λ f. IsWidestFirst g f more) equal first));
 }
 
-pub LeavesRest-all : (g : Graph) (flow : List ℕ) (answer : List (List ℕ × ℕ)) (rest : List ℕ) → LeavesRest g flow answer rest → ((p : List ℕ) → IsPath g p → path_width (slice_index rest) p ≡ 0) → IsWidestFirst g (slice_index flow) answer
-LeavesRest-all g flow answer rest left none = subst (IsWidestFirst g (slice_index flow)) (append-nil answer) (left.goes_on [] none)
+pub LeavesRest-all : (g : Graph) (flow : List ℕ) (begun answer : List (List ℕ × ℕ)) (rest : List ℕ) → LeavesRest g flow begun answer rest → ((p : List ℕ) → IsPath g p → path_width (slice_index rest) p ≡ 0) → EndsWidestFirst g (slice_index flow) begun answer
+LeavesRest-all g flow begun answer rest left none = (left.others, left.is, subst (IsWidestFirst g (slice_index flow)) (append-nil left.others) (left.goes_on [] none))
+
+-- a list that begins with nothing is widest first as a whole
+pub IsWidestFirst-whole : (g : Graph) (flow rest : List ℕ) (begun a : List (List ℕ × ℕ)) → begun ≡ [] → rest ≡ flow → EndsWidestFirst g (slice_index rest) begun a → IsWidestFirst g (slice_index flow) a
+IsWidestFirst-whole g flow rest begun a none same (others, is, widest) =
+    let whole : a ≡ others = is ∙ ap (λ xs. xs ++ others) none in
+    subst (IsWidestFirst g (slice_index flow)) (sym whole) (subst (λ r. IsWidestFirst g (slice_index r) others) same widest)
 
 -- the edges of a path are edges, each once, and have its width left
-module _ (g : Graph) (rest : ℕ → ℕ) (p : List ℕ) where
+module _ (g : Graph) (p : List ℕ) where
   stands : (k d : ℕ) → k < length p → has_edge p (slice_index_or p k d) ≡ true
   stands k d h = any-from_place (λ e. slice_index_or p k d == e) p d k h (eq-eqb (slice_index_or p k d) (slice_index_or p k d) refl)
 
@@ -148,5 +162,5 @@ module _ (g : Graph) (rest : ℕ → ℕ) (p : List ℕ) where
     go [] path = absurd (both_ways false refl path)
     go (e ∷ es) path = walk-distinct g net (tail g e) (e ∷ es) (path-ends g e es path).leads.walk
 
-  pub path-enough : (width : ℕ) → width ≡ path_width rest p → All (λ e. width ≤ rest e) p
-  path-enough width is k d h = omega (arith, is, path_width-le rest p (slice_index_or p k d) (stands k d h))
+  pub path-enough : (rest : ℕ → ℕ) (width : ℕ) → width ≡ path_width rest p → All (λ e. width ≤ rest e) p
+  path-enough rest width is k d h = omega (arith, is, path_width-le rest p (slice_index_or p k d) (stands k d h))

@@ -3,3 +3,10 @@ pub mod Finding
 pub mod Choosing
 pub mod TakingOff
 pub mod Decomposing
+pub mod Ahead
+pub mod Following
+pub mod Booked
+pub mod BookedLists
+pub mod OneList
+pub mod Counting
+pub mod Building

@@ -1,8 +1,14 @@
 //! First answers: decompositions of a flow into weighted paths.
 #![tactic(auto)]
 
-pub use greedy::{GreedyFault, decompose};
+pub use booking::book;
+pub use greedy::{GreedyFault, decompose, decompose_over, decompose_with};
 
+mod booking;
+mod contained;
+mod greatest;
 mod greedy;
+pub mod laws;
+mod units;
 mod widest;
 mod widths;
