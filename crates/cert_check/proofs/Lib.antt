@@ -1,2 +1,4 @@
 pub mod Apart
 pub mod Checking
+pub mod Crowding
+pub mod Cutting
