@@ -1,4 +1,11 @@
 pub mod Apart
+pub mod Asked
 pub mod Checking
 pub mod Crowding
 pub mod Cutting
+pub mod Distinct
+pub mod Failing
+pub mod Lows
+pub mod Rising
+pub mod Trees
+pub mod TrueReports
