@@ -14,7 +14,7 @@ abbrev pub all_go_on : Instance → Side → List ℕ → Bool
 all_go_on i side xs = list_all (λ v. nat_lt v i.graph.vertices && not (is_end i.graph side v)) xs
 
 -- a cut in parts: flow goes on at each vertex, and the sums tell that it cannot
-pub cut_parts : (i : Instance) (side : Side) (xs : List ℕ) →
+cut_parts : (i : Instance) (side : Side) (xs : List ℕ) →
     IsCut i side xs ↔ (IsTrue (all_go_on i side xs) × (sum_of_hi i (crosses i.graph (opposite side) xs) < sum_of_lo i (crosses i.graph side xs)))
 cut_parts i Entering xs = (λ cut. cut, λ cut. cut)
 cut_parts i Leaving xs = (λ cut. cut, λ cut. cut)

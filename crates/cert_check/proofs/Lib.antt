@@ -4,8 +4,8 @@ pub mod Checking
 pub mod Crowding
 pub mod Cutting
 pub mod Distinct
-pub mod Failing
 pub mod Lows
 pub mod Rising
 pub mod Trees
 pub mod TrueReports
+pub mod Verdicts

@@ -18,7 +18,7 @@ use Rattle.decomposition.proofs.Sums.{sum_below-same}
 abbrev pub lows : List Range → List ℕ
 lows ranges = map (λ r. r.lo) ranges
 
-lows-at : (ranges : List Range) (e : ℕ) → slice_index (lows ranges) e ≡ (range_at ranges e).lo
+pub lows-at : (ranges : List Range) (e : ℕ) → slice_index (lows ranges) e ≡ (range_at ranges e).lo
 lows-at ranges e = get_or-map (λ (r : Range). r.lo) ranges e (record { lo = 0; hi = 0 })
 
 -- flows with the same numbers have the same safe runs
@@ -39,15 +39,18 @@ lists-same P Q to from runs m = record {
   all = λ r maximal. m.all r (maximal-same Q P from to r maximal);
 }
 
+-- flows with the same numbers are balanced alike
+pub balanced-same : (g : Graph) (f h : ℕ → ℕ) → ((e : ℕ) → f e ≡ h e) → IsBalanced g f → IsBalanced g h
+balanced-same g f h same balanced v inner =
+    sum_below-same (λ e. cond (head g e == v) (h e) 0) (λ e. cond (head g e == v) (f e) 0) (edge_count g)
+    (λ e inside. ap (λ w. cond (head g e == v) w 0) (sym (same e)))
+    ∙ balanced v inner
+    ∙ sum_below-same (λ e. cond (tail g e == v) (f e) 0) (λ e. cond (tail g e == v) (h e) 0) (edge_count g)
+    (λ e inside. ap (λ w. cond (tail g e == v) w 0) (same e))
+
 module _ (i : Instance) (valid : IsInstance Exact i) where
   pub lows_balanced : IsBalanced i.graph (slice_index (lows i.ranges))
-  lows_balanced v inner =
-      let low = slice_index (lows i.ranges) in
-      sum_below-same (λ e. cond (head i.graph e == v) (low e) 0) (λ e. cond (head i.graph e == v) (lower_bound i e) 0) (edge_count i.graph)
-      (λ e inside. ap (λ w. cond (head i.graph e == v) w 0) (lows-at i.ranges e))
-      ∙ valid.fits.1 v inner
-      ∙ sym (sum_below-same (λ e. cond (tail i.graph e == v) (low e) 0) (λ e. cond (tail i.graph e == v) (lower_bound i e) 0) (edge_count i.graph)
-      (λ e inside. ap (λ w. cond (tail i.graph e == v) w 0) (lows-at i.ranges e)))
+  lows_balanced = balanced-same i.graph (lower_bound i) (slice_index (lows i.ranges)) (λ e. sym (lows-at i.ranges e)) valid.fits.1
 
   pub lows_small : All (λ w. w ≤ 1000000000000) (lows i.ranges)
   lows_small k d there =

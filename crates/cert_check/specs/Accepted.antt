@@ -53,7 +53,7 @@ CertFits mode i Optimal lower cert = IsSomeAnd lower (λ n. ShowsBound mode i n 
 CertFits mode i Infeasible lower cert = ShowsNone mode i cert
 CertFits mode i Bounds lower cert = IsSomeAnd lower (λ n. ShowsBound mode i n cert)
 
--- what a search below an upper bound, or for anything that meets, is asked
+-- what a spent search was asked: less than the upper bound, if there is one, else all; of the least error, a limit between the bounds
 abbrev pub IsAsked : Mode → Instance → Option ℕ → Option ℕ → Decision → Type 0
 IsAsked mode i lower None d = d ≡ decision_at_all mode i
 IsAsked Exact i lower (Some upper) d = d ≡ decision_below Exact i upper

@@ -1,6 +1,8 @@
 //! The line of the certificate.
 
 ghost use Rattle.std.specs.Prelude.{◌≡◌, ◌↔◌, ◌<◌, ◌^◌, length, IsTrue, IfOk};
+ghost use Rattle.std.specs.List.{list_all};
+ghost use Rattle.decomposition.specs.Graph.{edge_count, is_run};
 ghost use Rattle.decomposition.specs.Instance.{greatest_hi, IsInstance};
 ghost use Rattle.decomposition.specs.Tokens.{IsRefutation};
 ghost use Rattle.flow_models.specs.Problem.{instance};
@@ -20,14 +22,9 @@ use path_report::{Cert, Mark, Solved, Trail};
 use std::alloc::{AllocError, Global};
 
 /// Whether the tokens refute the decision.
-fn refutes(
-    alloc: Global,
-    net: &Net,
-    p: &Problem,
-    mode: &Mode,
-    tree: &Trail,
-) -> Result<bool, AllocError>
-    requires valid { IsInstance mode.now (instance net.now p.now) }
+fn refutes(alloc: Global, net: &Net, p: &Problem, tree: &Trail) -> Result<bool, AllocError>
+    requires ranged { length p.now.ranges ≡ edge_count net.now }
+    requires rules { IsTrue (list_all (is_run net.now) p.now.rules) }
     requires cap { p.now.cap ≡ greatest_hi p.now.ranges }
     requires few { length tree.now.tokens < 2 ^ 32 }
     ensures { IfOk result (λ refutes. IsTrue refutes ↔ IsRefutation (instance net.now p.now) tree.now.decision tree.now.tokens) }
@@ -38,7 +35,7 @@ fn refutes(
 
 /// Whether an antichain of as many edges as the lower bound shows it.
 fn wide_shows_bound(net: &Net, p: &Problem, mode: &Mode, lower: u64, edges: &[u32]) -> bool
-    requires valid { IsInstance mode.now (instance net.now p.now) }
+    requires { length p.now.ranges ≡ edge_count net.now }
     ensures { IsTrue result ↔ ShowsBound mode.now (instance net.now p.now) lower (Wide edges.now) }
 {
     counts_paths(mode) && edges.len() as u64 == lower && check_wide(net, p, edges)
@@ -61,7 +58,7 @@ fn tree_shows_bound(
     if lower == 0 || !is_in_reach(net, p, mode, lower) || !is_below(mode, lower, &tree.decision) {
         return Ok(false);
     }
-    refutes(alloc, net, p, mode, tree)
+    refutes(alloc, net, p, tree)
 }
 
 /// Whether a tree that refutes the decision for anything that meets shows that nothing does.
@@ -80,7 +77,7 @@ fn tree_shows_none(
     if !is_at_all(net, p, mode, &tree.decision) {
         return Ok(false);
     }
-    refutes(alloc, net, p, mode, tree)
+    refutes(alloc, net, p, tree)
 }
 
 /// Whether the certificate shows the lower bound.

@@ -65,7 +65,7 @@ fn are_apart(net: &Net, p: &Problem, rules: &[u32]) -> bool
 /// Whether the rules are a crowd: each goes through the edge, they are more than its upper bound, and no two lie on one
 /// path. Where so, no answer of error 0 covers. A number that is no edge or no rule, and a rule that stands twice, make
 /// the answer no. Each two entries are looked at once: for k entries that is at most k * (k - 1) / 2 comparisons of two
-/// runs, each of at most as many steps as the product of their lengths.
+/// runs, each of about as many steps as the two have edges.
 pub fn check_crowd(net: &Net, p: &Problem, edge: u32, rules: &[u32]) -> bool
     requires ranged { length p.now.ranges ≡ edge_count net.now }
     requires runs { IsTrue (list_all (is_run net.now) p.now.rules) }

@@ -1,6 +1,8 @@
 //! The line of the trail.
 
 ghost use Rattle.std.specs.Prelude.{◌≡◌, ◌↔◌, ◌<◌, ◌≤◌, ◌^◌, length, IsTrue, IfOk, IfSome, IsSomeAnd};
+ghost use Rattle.std.specs.List.{list_all};
+ghost use Rattle.decomposition.specs.Graph.{edge_count, is_run};
 ghost use Rattle.decomposition.specs.Instance.{greatest_hi, IsInstance};
 ghost use Rattle.decomposition.specs.Tokens.{IsTrail};
 ghost use Rattle.flow_models.specs.Problem.{instance};
@@ -47,14 +49,9 @@ fn is_asked(
 }
 
 /// Whether the tokens are legal and leave a box.
-fn leaves_open(
-    alloc: Global,
-    net: &Net,
-    p: &Problem,
-    mode: &Mode,
-    trail: &Trail,
-) -> Result<bool, AllocError>
-    requires valid { IsInstance mode.now (instance net.now p.now) }
+fn leaves_open(alloc: Global, net: &Net, p: &Problem, trail: &Trail) -> Result<bool, AllocError>
+    requires ranged { length p.now.ranges ≡ edge_count net.now }
+    requires rules { IsTrue (list_all (is_run net.now) p.now.rules) }
     requires cap { p.now.cap ≡ greatest_hi p.now.ranges }
     requires few { length trail.now.tokens < 2 ^ 32 }
     ensures { IfOk result (λ leaves. IsTrue leaves ↔ IsTrail (instance net.now p.now) trail.now.decision trail.now.tokens) }
@@ -80,7 +77,7 @@ fn leaves_open_between(
     if !is_asked(net, p, mode, solved.lower, solved.upper, &trail.decision) {
         return Ok(false);
     }
-    leaves_open(alloc, net, p, mode, trail)
+    leaves_open(alloc, net, p, trail)
 }
 
 /// Whether there is a trail exactly with the mark bounds, and it leaves open what lies below the upper bound.

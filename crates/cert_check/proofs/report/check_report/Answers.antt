@@ -6,7 +6,7 @@ use Rattle.flow_models.specs.Problem.{instance}
 use Rattle.cert_check.specs.declared.report.Verdict.TheVariants.{Yes}
 use Rattle.cert_check.specs.Verdict.{IsSolvedVerdict, IsAccepted}
 use Rattle.cert_check.specs.True.{IsTrueReport}
-use Rattle.cert_check.proofs.Failing.{solved_tells, yes_is}
+use Rattle.cert_check.proofs.Verdicts.{solved_tells, yes_is}
 use Rattle.cert_check.proofs.TrueReports.{body_is_true}
 use Rattle.cert_check.proofs.report.check_report.Goals as goal
 
