@@ -1,2 +1,11 @@
 pub mod Apart
+pub mod Asked
 pub mod Checking
+pub mod Crowding
+pub mod Cutting
+pub mod Distinct
+pub mod Lows
+pub mod Rising
+pub mod Trees
+pub mod TrueReports
+pub mod Verdicts

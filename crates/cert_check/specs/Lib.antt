@@ -1,1 +1,5 @@
+pub mod Accepted
+pub mod Cut
 pub mod Tree
+pub mod True
+pub mod Verdict

@@ -1,5 +1,5 @@
 -- What may be said of a list of tokens.
-use Rattle.std.specs.Prelude.{ℕ, zero, suc, ◌≤◌, List, length}
+use Rattle.std.specs.Prelude.{ℕ, zero, suc, ◌≤◌, Bool, true, false, List, length}
 use Rattle.decomposition.specs.declared.Mode.{Mode}
 use Rattle.decomposition.specs.declared.Token.{Token}
 use Rattle.decomposition.specs.declared.Decision.{Decision}
@@ -15,6 +15,18 @@ abbrev pub IsVerdictOf : Instance → Decision → List Token → TreeVerdict �
 IsVerdictOf i d ts Refutes = IsRefutation i d ts
 IsVerdictOf i d ts (Pending n) = (1 ≤ n) × LeavesBoxes i d ts n
 IsVerdictOf i d ts (Illegal k) = IsFirstIllegal i d ts k
+
+-- whether the tokens refute
+abbrev pub is_refuting : TreeVerdict → Bool
+is_refuting Refutes = true
+is_refuting (Pending n) = false
+is_refuting (Illegal k) = false
+
+-- whether the tokens leave a box
+abbrev pub is_pending : TreeVerdict → Bool
+is_pending Refutes = false
+is_pending (Pending n) = true
+is_pending (Illegal k) = false
 
 -- no answer with at most so many paths covers with an error within the limit
 abbrev pub IsRefuted : Instance → Decision → Type 0

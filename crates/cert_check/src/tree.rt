@@ -5,7 +5,7 @@ ghost use Rattle.std.specs.List.{list_all};
 ghost use Rattle.decomposition.specs.Graph.{edge_count, is_run};
 ghost use Rattle.decomposition.specs.Instance.{greatest_hi};
 ghost use Rattle.flow_models.specs.Problem.{instance};
-ghost use Rattle.cert_check.specs.Tree.{IsVerdictOf, IsRefuted, verdict_of};
+ghost use Rattle.cert_check.specs.Tree.{IsVerdictOf, IsRefuted, verdict_of, is_refuting, is_pending};
 ghost use Rattle.cert_check.specs.declared.tree.TreeVerdict.TheVariants.{Refutes};
 
 use dag_net::Net;
@@ -23,6 +23,22 @@ pub enum TreeVerdict {
     Pending(usize),
     /// The first token that is not legal stands at this place, counted from 0. One that is left over is not legal.
     Illegal(usize),
+}
+
+impl TreeVerdict {
+    /// Whether the tokens refute.
+    pub fn refutes(self) -> bool
+        ensures { result ≡ is_refuting self }
+    {
+        matches!(self, TreeVerdict::Refutes)
+    }
+
+    /// Whether the tokens are legal and leave a box.
+    pub fn leaves_open(self) -> bool
+        ensures { result ≡ is_pending self }
+    {
+        matches!(self, TreeVerdict::Pending(_))
+    }
 }
 
 /// The verdict where every token is legal and so many boxes are left.

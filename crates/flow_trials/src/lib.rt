@@ -7,6 +7,8 @@ mod bounds;
 mod booked;
 mod calls;
 #[cfg(test)]
+mod certs;
+#[cfg(test)]
 mod diamonds;
 #[cfg(test)]
 mod faults;

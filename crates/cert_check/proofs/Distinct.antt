@@ -1,0 +1,56 @@
+-- Paths that are seen among the entries of an answer.
+use Rattle.std.proofs.Common.{◌≡◌, ◌≢◌, ◌<◌, ◌+◌, ◌||◌, ℕ, List, [], Bool, true, false, cond, length, take, get_or, refl, sym, ap, ◌∙◌, arith}
+use Rattle.std.specs.Prelude.{AllPairs}
+use Rattle.std.specs.List.{list_any}
+use Rattle.std.specs.Cmp.Lexicographic.{slice_cmp}
+use Rattle.std.specs.Ordering.{nat_cmp, is_eq}
+use Rattle.std.proofs.lemmas.Bool.{both_ways}
+use Rattle.std.proofs.lemmas.List.{take_more, get_or-take, length-take}
+use Rattle.std.proofs.lemmas.List.Folds.{list_any_more}
+use Rattle.std.proofs.lemmas.List.Quantifiers.{all_pairs_push}
+use Rattle.std.proofs.lemmas.Map.Text.{is_eq-slice_cmp}
+use Rattle.std.proofs.lemmas.Slice.Eq.{bytes_eq-Decides}
+use Rattle.std.specs.Str.{bytes_eq}
+use Rattle.decomposition.specs.Answer.{entry_at}
+use Rattle.decomposition.proofs.Members.{any-place, any-from_place}
+
+-- whether a path stands in a list of entries
+abbrev pub has_path : List (List ℕ × ℕ) → List ℕ → Bool
+has_path paths q = list_any (λ entry. bytes_eq entry.0 q) paths
+
+either : (a b : Bool) → cond a true b ≡ (b || a)
+either true true = refl
+either true false = refl
+either false true = refl
+either false false = refl
+
+-- a path stands among the first i + 1 entries where it is that of the next one, or stands among the first i
+pub has_path-more : (paths : List (List ℕ × ℕ)) (i : ℕ) → i < length paths → (path q : List ℕ) → path ≡ (entry_at paths i).0
+    → cond (is_eq (slice_cmp nat_cmp path q)) true (has_path (take i paths) q) ≡ has_path (take (i + 1) paths) q
+has_path-more paths i there path q is =
+    ap (λ b. cond b true (has_path (take i paths) q)) (is_eq-slice_cmp path q)
+    ∙ either (bytes_eq path q) (has_path (take i paths) q)
+    ∙ ap (λ p. has_path (take i paths) q || bytes_eq p q) is
+    ∙ sym (list_any_more (λ entry. bytes_eq entry.0 q) paths i ([], 0) there)
+
+abbrev pub AreDistinct : List (List ℕ × ℕ) → Type 0
+AreDistinct paths = AllPairs (λ a b. a.0 ≢ b.0) paths
+
+-- an entry whose path stands among those before it
+pub not_distinct : (paths : List (List ℕ × ℕ)) (i : ℕ) → i < length paths → (path : List ℕ) → path ≡ (entry_at paths i).0 → has_path (take i paths) path ≡ true → AreDistinct paths → ⊥
+not_distinct paths i inside path is seen distinct =
+    let at = any-place (λ (entry : List ℕ × ℕ). bytes_eq entry.0 path) (take i paths) ([], 0) seen in
+    let low : at.0 < i = omega (arith, at.1, length-take i paths) in
+    let same : (entry_at (take i paths) at.0).0 ≡ path = (bytes_eq-Decides (entry_at (take i paths) at.0).0 path).0 at.2 in
+    distinct at.0 i ([], 0) low inside (ap (λ (e : List ℕ × ℕ). e.0) (sym (get_or-take i paths at.0 ([], 0) low)) ∙ same ∙ is)
+
+-- one entry more, whose path does not stand among those before it
+pub distinct_more : (paths : List (List ℕ × ℕ)) (i : ℕ) → i < length paths → (path : List ℕ) → path ≡ (entry_at paths i).0 → has_path (take i paths) path ≡ false
+    → AreDistinct (take i paths) → AreDistinct (take (i + 1) paths)
+distinct_more paths i inside path is new distinct =
+    let test : List ℕ × ℕ → Bool = λ entry. bytes_eq entry.0 path in
+    rw (take_more paths i ([], 0) inside)
+    (all_pairs_push (λ a b. a.0 ≢ b.0) (take i paths) (entry_at paths i) distinct
+    (λ k d h same.
+    both_ways (list_any test (take i paths)) new
+    (any-from_place test (take i paths) d k h ((bytes_eq-Decides (get_or (take i paths) k d).0 path).1 (same ∙ sym is)))))

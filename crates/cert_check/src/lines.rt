@@ -1,0 +1,55 @@
+//! Where the lines of a report stand.
+
+ghost use Rattle.std.specs.Prelude.{◌≡◌, ◌≤◌, ◌^◌};
+ghost use Rattle.cert_check.specs.Verdict.{item_count, trail_lines, place_of, IsShort};
+ghost use Rattle.cert_check.specs.Verdict.Line.{CertLine, TrailLine, SafeLine};
+
+use path_report::{Cert, Solved, Trail};
+
+/// How many lines stand below the line of a certificate.
+fn item_count(cert: &Cert) -> usize
+    ensures { result ≡ item_count cert.now }
+{
+    match cert {
+        Cert::Zero => 0,
+        Cert::Wide(edges) => edges.len(),
+        Cert::Tree(tree) => tree.tokens.len(),
+        Cert::Cut(_, vertices) => vertices.len(),
+        Cert::Crowd(_, rules) => rules.len(),
+    }
+}
+
+/// How many lines a trail has.
+fn trail_lines(trail: &Option<Trail>) -> u64
+    requires { trail_lines trail.now ≤ 2 ^ 32 }
+    ensures { result ≡ trail_lines trail.now }
+{
+    match trail {
+        None => 0,
+        Some(trail) => 1 + trail.tokens.len() as u64,
+    }
+}
+
+/// Where the line of the certificate stands.
+pub fn cert_place(solved: &Solved) -> u64
+    requires { IsShort solved.now }
+    ensures { result ≡ place_of solved.now CertLine }
+{
+    6 + solved.paths.len() as u64
+}
+
+/// Where the line of the trail stands.
+pub fn trail_place(solved: &Solved) -> u64
+    requires { IsShort solved.now }
+    ensures { result ≡ place_of solved.now TrailLine }
+{
+    cert_place(solved) + 1 + item_count(&solved.cert) as u64
+}
+
+/// Where the line of the safe runs stands.
+pub fn safe_place(solved: &Solved) -> u64
+    requires { IsShort solved.now }
+    ensures { result ≡ place_of solved.now SafeLine }
+{
+    trail_place(solved) + trail_lines(&solved.trail)
+}
