@@ -4,6 +4,8 @@
 #[cfg(test)]
 mod calls;
 #[cfg(test)]
+mod constraints;
+#[cfg(test)]
 mod diamonds;
 #[cfg(test)]
 mod faults;
