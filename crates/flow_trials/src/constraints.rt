@@ -28,7 +28,10 @@ fn lists_are_read_as_runs(rt: HostRuntime) -> Result<(), Fail> {
         ("# x\n#S s t\n2\ns t 1\n", &[&[0]]),
         ("# x\n#S s #t\n2\ns #t 1\n", &[&[0]]),
         ("# x\n#S s a t\n#S a t\n3\ns a 1\na t 1\n", &[&[0, 1], &[1]]),
-        ("# x\n#S a t\n# y\n\n#S  a\tt \r\n#S s a\n3\ns a 1\na t 1\n", &[&[1], &[0]]),
+        (
+            "# x\n#S a t\n# y\n\n#S  a\tt \r\n#S s a\n3\ns a 1\na t 1\n",
+            &[&[1], &[0]],
+        ),
         ("# x\n#Sub s t\n##S s t\n2\ns t 1\n", &[]),
         ("# x\n2\ns t 1\n#S s t\n2\ns t 1\n", &[&[0]]),
     ];
@@ -81,7 +84,10 @@ fn lists_are_refused(rt: HostRuntime) -> Result<(), Fail> {
         for (text, refusal) in rows {
             let ran = run_on(alloc, text, chunk)?;
             let report = format!(in alloc; "graph 1 x\nmodel exact\nrefused {refusal}\nend\n")?;
-            assert!(rt; ran.out.bytes() == report.as_bytes(), "the output of {text}");
+            assert!(rt;
+                ran.out.bytes() == report.as_bytes(),
+                "the output of {text}"
+            );
             assert_eq!(rt; ran.status, Status::Refused, "the status of {text}");
         }
     }

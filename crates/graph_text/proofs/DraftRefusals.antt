@@ -1,5 +1,5 @@
 -- The refusal of a block from what its draft keeps of its lines.
-use Rattle.std.proofs.Common.{◌≡◌, ℕ, suc, ◌+◌, ◌-◌, ◌<◌, ◌≤◌, List, [], ◌∷◌, drop, length, length-drop, get_or, true, false, not, Err, Option, Some, None, sym, ap, ◌∙◌, arith, ⊎_elim}
+use Rattle.std.proofs.Common.{◌≡◌, ℕ, ◌+◌, ◌-◌, ◌<◌, ◌≤◌, List, [], ◌∷◌, drop, length, length-drop, get_or, true, false, not, Err, Option, Some, None, sym, ap, ◌∙◌, arith, ⊎_elim}
 use Rattle.std.specs.List.{All}
 use Rattle.std.specs.Option.{IfSome, IfNone, option_to_list}
 use Rattle.std.proofs.lemmas.Bool.{cases_lt}

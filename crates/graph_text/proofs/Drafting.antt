@@ -3,7 +3,7 @@ use Rattle.std.proofs.Common.{◌≡◌, ℕ, zero, suc, Contains, ◌<◌, ◌�
 use Rattle.std.specs.Bool.{then_some}
 use Rattle.std.specs.List.{All, list_any}
 use Rattle.std.specs.Option.{is_some, option_or, option_to_list}
-use Rattle.std.proofs.lemmas.Bool.{true≢false, false≢true, eqb-true, eqb-false, not-true, not-false, false_from_ne_true, or_right}
+use Rattle.std.proofs.lemmas.Bool.{true≢false, false≢true, eqb-true, eqb-false, not-true, not-false, or_right}
 use Rattle.std.proofs.lemmas.List.{nil_from_length, append-nil, map_push}
 use Rattle.std.proofs.lemmas.List.Elements.{All-contains}
 use Rattle.std.specs.List.{AllPairs}

@@ -1,11 +1,11 @@
 -- Finishing a block: the refusals of all of its lines, and those of its graph, from what a builder of nets finds.
-use Rattle.std.proofs.Common.{◌≡◌, ◌≢◌, ℕ, zero, suc, ◌+◌, ◌-◌, ◌<◌, ◌≤◌, Bool, true, false, not, leb, ◌||◌, List, [], ◌∷◌, ◌++◌, map, filter, length, take, drop, get_or, refl, sym, ap, subst, ◌∙◌, ⊎_elim, arith}
+use Rattle.std.proofs.Common.{◌≡◌, ◌≢◌, ℕ, zero, suc, ◌+◌, ◌<◌, ◌≤◌, Bool, true, false, not, leb, ◌||◌, List, [], ◌∷◌, ◌++◌, map, filter, length, take, drop, get_or, refl, sym, ap, subst, ◌∙◌, ⊎_elim, arith}
 use Rattle.std.specs.Prelude.{All, AllPairs, IsTrue, ◌==◌, Option, Some, None}
 use Rattle.std.specs.List.{enumerate_from, list_all}
 use Rattle.std.specs.Prelude.{nat_lt}
 use Rattle.std.specs.Option.{IfSome}
 use Rattle.std.proofs.lemmas.Bool.{cases_Bool, cond-true, cond-false, and_from, and_left, and_right, or_left, or_right, or_from, not-false, false_from_ne_true, ne_eqb, eq-eqb, le-leb, lt-ltb, le-ltb, cases_lt}
-use Rattle.std.proofs.lemmas.List.{append-nil, drop_all, take_all, drop_more, get_or_default, get_or-take, length-take-le}
+use Rattle.std.proofs.lemmas.List.{append-nil, take_all, get_or_default, get_or-take, length-take-le}
 use Rattle.std.proofs.lemmas.List.Elements.{All-cons, All-head, All-tail, All-map, All-filter, All-take, All-drop, filter-append}
 use Rattle.std.proofs.lemmas.List.Kept.{AllPairs-filter}
 use Rattle.decomposition.specs.declared.Mode.{Mode}
@@ -23,7 +23,7 @@ use Rattle.graph_text.specs.declared.refusal.Refusal.{Refusal}
 use Rattle.graph_text.specs.declared.block.RawGraph.{RawGraph}
 use Rattle.graph_text.specs.Draft.{settled_refusals}
 use Rattle.graph_text.specs.LineFaults.{is_of_length, without_count}
-use Rattle.graph_text.specs.Reading.{Line, most_edges, most_constraints, run_lines, is_short, short_lines, constraint_lines, filled_lines, content_lines, count_lines, edge_lines, long_lines, last_filled, is_count, weights_of, last_fields, is_weight, range_of, refused, bad_counts, bad_fields, bad_weights, bad_ranges, repeats, line_refusals, earlier, earliest, or_else, lines_where, closes_cycle, cycle_lines, is_unbalanced, unconserved_lines, lines_naming, most_bytes}
+use Rattle.graph_text.specs.Reading.{Line, most_edges, most_constraints, run_lines, is_short, short_lines, constraint_lines, filled_lines, content_lines, count_lines, edge_lines, long_lines, last_filled, is_count, weights_of, last_fields, is_weight, range_of, refused, bad_counts, bad_fields, bad_weights, bad_ranges, repeats, line_refusals, earlier, earliest, lines_where, closes_cycle, cycle_lines, is_unbalanced, unconserved_lines, lines_naming, most_bytes}
 use Rattle.graph_text.specs.Lines.{are_no_fields, are_hash_fields, are_run_fields}
 use Rattle.graph_text.proofs.FirstLists.{first_listed-All, filter_twice}
 use Rattle.graph_text.proofs.Earliest.{merge, merge-assoc, merge-IfSome, earlier-first, earlier-second, earliest-append, earliest-All}

@@ -1,5 +1,5 @@
 -- What a cutter holds, step by step.
-use Rattle.std.specs.Prelude.{◌≡◌, ℕ, ◌+◌, ◌-◌, ◌<◌, ◌≤◌, ◌==◌, List, [], ◌∷◌, ◌++◌, length, take, drop, Bool, true, false, not, ◌&&◌, ◌||◌, if◌then◌else◌, zero, suc, refl, Result, All, nat_le, Some, None}
+use Rattle.std.specs.Prelude.{◌≡◌, ℕ, ◌+◌, ◌-◌, ◌<◌, ◌≤◌, List, [], ◌∷◌, ◌++◌, length, take, drop, Bool, true, false, not, ◌&&◌, ◌||◌, if◌then◌else◌, zero, suc, refl, Result, All, nat_le, Some, None}
 use Rattle.std.specs.Int.{from_bool}
 use Rattle.std.specs.List.{list_all, list_any, position_or_len, take_while}
 use Rattle.std.proofs.Common.{sym, ◌∙◌, ap, arith, subst, true≢false, get_or, length-append, append_assoc, append-nil, inl, inr}

@@ -1,6 +1,5 @@
 -- Blank lines and content lines are no `#S` lines, and `#S` lines are `#` lines.
 use Rattle.std.proofs.Common.{◌≡◌, ℕ, List, [], ◌∷◌, true, false, refl, sym, ap, ◌∙◌}
-use Rattle.std.specs.Str.{bytes_eq}
 use Rattle.std.proofs.lemmas.Bool.{true≢false, false≢true, false_from_ne_true}
 use Rattle.std.proofs.lemmas.Slice.Eq.{bytes_eq-Decides}
 use Rattle.graph_text.specs.Lines.{are_no_fields, are_hash_fields, are_run_fields, begins_with_hash}

@@ -3,9 +3,8 @@ use Rattle.std.proofs.Common.{◌≡◌, ◌≢◌, ℕ, suc, ◌<◌, ◌≤◌
 use Rattle.std.specs.Prelude.{All, AllPairs, ◌==◌}
 use Rattle.std.specs.Cmp.Lexicographic.{pointwise}
 use Rattle.std.specs.List.{list_any, list_all, position_or_len, IsDistinct}
-use Rattle.std.proofs.lemmas.Bool.{true≢false, or_parts, and_from, eqb-false, eq-eqb, lt-ltb, ltb-false, not-true, not-false}
+use Rattle.std.proofs.lemmas.Bool.{true≢false, or_parts, and_from, eqb-false, eq-eqb, lt-ltb, ltb-false, not-true}
 use Rattle.std.proofs.lemmas.Bool.Decides.{Decides-eqb}
-use Rattle.std.proofs.lemmas.List.{length-map}
 use Rattle.std.proofs.lemmas.List.Elements.{All-nil, All-cons, All-head, All-tail, All-map, All-filter, All-weaker, filter_passes}
 use Rattle.std.proofs.lemmas.List.Folds.{list_all-map}
 use Rattle.std.proofs.lemmas.List.Kept.{AllPairs-cons, AllPairs-filter}
@@ -16,10 +15,9 @@ use Rattle.std.specs.Str.{bytes_eq}
 use Rattle.decomposition.specs.Graph.{Graph, graph_of, edge_count, tail, head, same_ends, is_walk_from, is_run}
 use Rattle.decomposition.proofs.Nets.{same_ends-Decides}
 use Rattle.decomposition.proofs.Open.{all-from_places}
-use Rattle.graph_text.specs.Lines.{are_run_fields}
-use Rattle.graph_text.specs.Reading.{Line, most_constraints, names_of, edges_of, vertex_of, neighbours, run_of, has_unknown, listed, same_fields, is_short, run_lines, first_listed, constraint_lines}
+use Rattle.graph_text.specs.Reading.{Line, names_of, edges_of, vertex_of, neighbours, run_of, has_unknown, listed, same_fields, is_short, run_lines, first_listed, constraint_lines}
 use Rattle.graph_text.proofs.FirstLists.{same_fields-Decides, first_listed-All}
-use Rattle.graph_text.proofs.GraphOfLines.{filter-empty, few-from_none}
+use Rattle.graph_text.proofs.GraphOfLines.{filter-empty}
 
 module _ (g : Graph) where
   abbrev place : ℕ × ℕ → ℕ

@@ -11,7 +11,7 @@ use Rattle.graph_text.specs.declared.refusal.Refusal.{Refusal}
 use Rattle.graph_text.specs.Lines.{are_no_fields, are_hash_fields, are_run_fields}
 use Rattle.graph_text.specs.Reading.{Line, most_bytes, most_edges, most_constraints, listed, is_short, short_lines, run_lines, constraint_lines, filled_lines, content_lines, count_lines, edge_lines, long_lines, repeats, is_count, is_weight, weights_of, last_fields, range_of, same_fields, ends_of, refused, earliest, or_else}
 use Rattle.graph_text.specs.Draft.{settled_refusals}
-use Rattle.graph_text.specs.LineFaults.{fault_of_comment, fault_of_count, fault_of_edge, fault_of_list, fault_of_run, or_fault, refusal_at}
+use Rattle.graph_text.specs.LineFaults.{fault_of_comment, fault_of_count, fault_of_edge, fault_of_run, or_fault, refusal_at}
 use Rattle.graph_text.specs.ShownLine.{IsBlank, IsHash, IsComment, IsRunLine, IsContent}
 use Rattle.graph_text.proofs.Earliest.{Grows, Grows-kind, Grows-same, Grows-repeats, refusal_if}
 use Rattle.graph_text.proofs.FirstLists.{is_listed, constraints-All, constraints-other, constraints-run}

@@ -1,13 +1,13 @@
 -- The first `#S` line with two neighbours that are no edge is the first among the constraints.
-use Rattle.std.proofs.Common.{◌≡◌, ℕ, zero, suc, ◌<◌, ◌≤◌, Bool, true, false, not, cond, List, [], ◌∷◌, map, filter, length, refl, sym, ap, subst, ◌∙◌, ⊎_elim, arith}
-use Rattle.std.specs.Prelude.{All, Option, Some, None}
-use Rattle.std.proofs.lemmas.Bool.{true≢false, cases_Bool, cond-true, cond-false, not-false, ltb-true, false_from_ne_true}
+use Rattle.std.proofs.Common.{◌≡◌, ℕ, suc, ◌<◌, ◌≤◌, Bool, false, not, cond, List, [], ◌∷◌, map, filter, length, refl, sym, ap, ◌∙◌, ⊎_elim, arith}
+use Rattle.std.specs.Prelude.{Option, Some, None}
+use Rattle.std.proofs.lemmas.Bool.{cases_Bool, cond-true, cond-false, not-false, ltb-true}
 use Rattle.std.proofs.lemmas.List.Elements.{All-filter}
 use Rattle.std.proofs.lemmas.List.Kept.{AllPairs-filter}
 use Rattle.graph_text.specs.declared.refusal.Why.TheVariants.{UnknownEdge}
 use Rattle.graph_text.specs.declared.refusal.Refusal.{Refusal}
 use Rattle.graph_text.specs.declared.block.RawGraph.{RawGraph}
-use Rattle.graph_text.specs.Constraints.{Listing, listing_of, is_unknown, first_unknown}
+use Rattle.graph_text.specs.Constraints.{listing_of, first_unknown}
 use Rattle.graph_text.specs.Labels.{LabelLists}
 use Rattle.graph_text.specs.Lines.{are_run_fields}
 use Rattle.graph_text.specs.Reading.{Line, refused, earliest, listed, same_fields, is_short, run_lines, first_listed, constraint_lines, has_unknown, unknown_lines}

@@ -1,5 +1,5 @@
 -- What lines are read as, by what is known of them once they have all come.
-use Rattle.std.proofs.Common.{◌≡◌, ℕ, ◌<◌, ◌≤◌, true, false, List, [], ◌∷◌, map, length, get_or, refl, sym, ap, subst, ◌∙◌, arith}
+use Rattle.std.proofs.Common.{◌≡◌, ℕ, ◌<◌, ◌≤◌, true, false, List, [], ◌∷◌, map, length, get_or, refl, sym, ap, ◌∙◌, arith}
 use Rattle.std.specs.Prelude.{All, Option, Some, None, Ok, Err}
 use Rattle.std.proofs.lemmas.List.{get_or-map}
 use Rattle.decomposition.specs.declared.Mode.{Mode}

@@ -70,7 +70,8 @@ impl Constraint {
         let names = self.names.as_slice();
         let mut run = Ids::new(alloc);
         for i in 1..names.len() {
-            let Some(edge) = labels.edge_between(names[i - 1].as_slice(), names[i].as_slice()) else {
+            let Some(edge) = labels.edge_between(names[i - 1].as_slice(), names[i].as_slice())
+            else {
                 return Ok(None);
             };
             run.push(edge)?;
@@ -110,7 +111,9 @@ impl Constraints {
     fn has(&self, names: &[&[u8]]) -> bool
         ensures { result ≡ has_list self.now (map (λ (name : Bor (List ℕ)). name.now) names.now) }
     {
-        self.entries.iter().any(|constraint| constraint.lists(names))
+        self.entries
+            .iter()
+            .any(|constraint| constraint.lists(names))
     }
 
     /// Takes the vertices that the `#S` line of this number lists, or says what is wrong with them. A list that is there
@@ -156,11 +159,7 @@ impl Constraints {
     }
 
     /// The runs of the constraints, or the number of the first line that lists two neighbours that are no edge.
-    pub fn runs(
-        &self,
-        alloc: Global,
-        labels: &Labels,
-    ) -> Result<Result<IdLists, u64>, AllocError>
+    pub fn runs(&self, alloc: Global, labels: &Labels) -> Result<Result<IdLists, u64>, AllocError>
         ensures { IfOk result (λ found. MatchResult found
             (λ runs. (first_unknown labels.now self.now ≡ None) × (runs ≡ map (λ (c : Listing). run_of labels.now.names labels.now.edges c.names) self.now))
             (λ number. first_unknown labels.now self.now ≡ Some number)) }

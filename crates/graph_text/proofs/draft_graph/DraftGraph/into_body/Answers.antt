@@ -1,4 +1,4 @@
-use Rattle.std.proofs.Common.{Ok, Err, ap, ◌∙◌}
+use Rattle.std.proofs.Common.{Err, ap, ◌∙◌}
 use Rattle.graph_text.proofs.DraftBodies.{body-cycle, body-unknown, body-unbalanced, body-graph}
 use Rattle.graph_text.proofs.draft_graph.DraftGraph.into_body.Goals as goal
 
