@@ -64,6 +64,7 @@ impl Labels {
         ensures place { result ≡ position (bytes_eq name.now) self.now.names }
         ensures found { MatchOption result (¬ Contains self.now.names name.now)
             (λ v. (v < length self.now.names) × (name_at self.now v ≡ name.now)) }
+        ensures labels { AreLabels self.now }
     {
         let v = self.names.get_index_of(name)?;
         Some(v as u32)
@@ -93,7 +94,6 @@ impl Labels {
         ensures place { result ≡ position (same_ends (vertex_of self.now.names tail.now, vertex_of self.now.names head.now)) self.now.edges }
         ensures joined { IsTrue (is_some result) ↔ HasEdge self.now tail.now head.now }
     {
-        let _names = &self.names;
         let u = self.vertex(tail)?;
         let v = self.vertex(head)?;
         self.edge(u, v)

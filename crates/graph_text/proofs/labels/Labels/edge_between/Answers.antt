@@ -1,6 +1,5 @@
-use Rattle.std.proofs.Common.{inl, inr, subst, ◌∙◌}
+use Rattle.std.proofs.Common.{inl, inr, ◌∙◌}
 use Rattle.std.specs.Str.{bytes_eq}
-use Rattle.graph_text.specs.Labels.{AreLabels}
 use Rattle.graph_text.specs.Reading.{vertex_of}
 use Rattle.graph_text.proofs.DraftGraphs.{HasEdge-numbers}
 use Rattle.graph_text.proofs.Linking.{place-missing, no_edge}
@@ -10,14 +9,14 @@ pub returns-in_err-u-clause-place : goal.returns-in_err-u-clause-place
 returns-in_err-u-clause-place c =
     let labels = c.args.self.now in
     c.from_residual.ensures
-    ∙ no_edge labels (subst AreLabels c.self.view_is c.self.invariant.labels) (vertex_of labels.names c.args.tail.now) (vertex_of labels.names c.args.head.now)
+    ∙ no_edge labels c.in_err-u.ensures.labels (vertex_of labels.names c.args.tail.now) (vertex_of labels.names c.args.head.now)
     (inl (place-missing (bytes_eq c.args.tail.now) labels.names c.in_err-u.ensures.place))
 
 pub returns-in_err-v-clause-place : goal.returns-in_err-v-clause-place
 returns-in_err-v-clause-place c =
     let labels = c.args.self.now in
     c.from_residual-in_err-v.ensures
-    ∙ no_edge labels (subst AreLabels c.self.view_is c.self.invariant.labels) (vertex_of labels.names c.args.tail.now) (vertex_of labels.names c.args.head.now)
+    ∙ no_edge labels c.in_err-v.ensures.labels (vertex_of labels.names c.args.tail.now) (vertex_of labels.names c.args.head.now)
     (inr (place-missing (bytes_eq c.args.head.now) labels.names c.in_err-v.ensures.place))
 
 pub returns-clause-joined : goal.returns-clause-joined
