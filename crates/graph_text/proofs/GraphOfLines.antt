@@ -51,7 +51,7 @@ few-from_none n xs h =
     let e : length (take 1 (drop n xs)) ≡ 0 = ap length h in
     omega (arith, length-take 1 (drop n xs), length-drop n xs)
 
--- no edge line is refused for its fields, its weights, its range, a repeated edge, or as one too many, and no `#S` line
+-- no line is refused for its fields, its weights, its range, a repeated edge, or as one edge or one constraint too many
 pub record AreSound (mode : Mode) (lines : List Line) : Type 0 where
   pub fields : bad_fields mode lines ≡ []
   pub weights : bad_weights mode lines ≡ []
@@ -59,7 +59,6 @@ pub record AreSound (mode : Mode) (lines : List Line) : Type 0 where
   pub once : repeats (edge_lines lines) ≡ []
   pub few : take 1 (drop most_edges (edge_lines lines)) ≡ []
   pub few_constraints : take 1 (drop most_constraints (constraint_lines lines)) ≡ []
-  pub none_short : short_lines lines ≡ []
 
 sound-parts : (mode : Mode) (lines : List Line) (front : List Refusal)
     → front ++ refused BadFields (bad_fields mode lines) ++ refused BadWeight (bad_weights mode lines) ++ refused BadRange (bad_ranges mode lines)
@@ -81,7 +80,6 @@ sound-parts mode lines front none =
       once = refused-empty RepeatedEdge _ repeated.1;
       few = refused-empty TooManyEdges _ many.1;
       few_constraints = refused-empty TooManyConstraints _ crowd.1;
-      none_short = refused-empty ShortConstraint _ short.1;
     }
 
 pub AreSound-from_settled : (mode : Mode) (lines : List Line) → earliest (settled_refusals mode lines) ≡ None → AreSound mode lines

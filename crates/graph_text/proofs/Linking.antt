@@ -71,9 +71,6 @@ module _ (names : List (List ℕ)) (edges : List (ℕ × ℕ)) where
     pub whole : run_of names edges xs ≡ run ++ run_of names edges (drop (i - 1) xs)
     pub known : misses run ≡ false
 
-  pub run-begun : (xs : List (List ℕ)) → IsRunUpTo xs 1 []
-  run-begun xs = record { from = omega arith; whole = refl; known = refl }
-
   pub run-goes_on : (xs : List (List ℕ)) (i : ℕ) (run : List ℕ) (edge : ℕ) → IsRunUpTo xs i run → i < length xs
       → Some edge ≡ position (same_ends (vertex_of names (get_or xs (i - 1) []), vertex_of names (get_or xs i []))) edges → IsRunUpTo xs (i + 1) (run ++ edge ∷ [])
   run-goes_on xs i run edge so within is =
