@@ -2,12 +2,15 @@
 #![tactic(auto)]
 
 #[cfg(test)]
+mod booked;
+#[cfg(test)]
 mod bounds;
 #[cfg(test)]
-mod booked;
 mod calls;
 #[cfg(test)]
 mod certs;
+#[cfg(test)]
+mod constraints;
 #[cfg(test)]
 mod diamonds;
 #[cfg(test)]

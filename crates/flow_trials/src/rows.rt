@@ -60,8 +60,8 @@ const REPORTS: [(&str, &str, Status); 13] = [
         Status::Clean,
     ),
     (
-        "# two\n#S s t\n2\ns t 1\n",
-        "graph 1 two\nmodel exact\nrefused 2 Later\nend\n",
+        "# two\n#S s\n2\ns t 1\n",
+        "graph 1 two\nmodel exact\nrefused 2 ShortConstraint\nend\n",
         Status::Refused,
     ),
     (THREE, THREE_REPORTS, Status::Refused),

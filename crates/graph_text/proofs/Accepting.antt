@@ -15,14 +15,15 @@ use Rattle.decomposition.specs.Instance.{FitsModel, lower_bound}
 use Rattle.decomposition.proofs.Balance.{inner-parts}
 use Rattle.decomposition.proofs.Walks.{IsStep, walk-cons, edge_out_of}
 use Rattle.decomposition.proofs.Reaching.{closes_some, IsNet-more}
-use Rattle.graph_text.specs.declared.refusal.Why.TheVariants.{Later, Cycle, Unconserved}
+use Rattle.graph_text.specs.declared.refusal.Why.TheVariants.{Cycle, UnknownEdge, Unconserved}
 use Rattle.graph_text.specs.declared.refusal.Refusal.{Refusal}
 use Rattle.graph_text.specs.declared.block.RawGraph.{RawGraph}
 use Rattle.graph_text.specs.Accepted.{IsAccepted, GraphsAreAccepted}
 use Rattle.graph_text.specs.Labels.{is_field}
-use Rattle.graph_text.specs.Reading.{Line, numbered_lines, filled_lines, content_lines, edge_lines, run_lines, ends_of, distinct, names_of, edge_of, raw_graph_of, refused, line_refusals, earliest, or_else, err_or, refusal_of, closes_cycle, cycle_lines, is_unbalanced, unconserved_lines, lines_naming, instance_of, weights_of}
+use Rattle.graph_text.specs.Reading.{Line, numbered_lines, filled_lines, content_lines, edge_lines, most_constraints, listed, constraint_lines, run_of, unknown_lines, ends_of, distinct, names_of, edge_of, edges_of, raw_graph_of, refused, line_refusals, earliest, or_else, err_or, refusal_of, closes_cycle, cycle_lines, is_unbalanced, unconserved_lines, lines_naming, instance_of, weights_of}
 use Rattle.graph_text.proofs.Finishing.{lines_where-empty, inner_inside}
-use Rattle.graph_text.proofs.GraphOfLines.{AreSound-from_line, earliest-none, refused-empty, filter-empty, edges_inside, edges_distinct, range_each, ranges_bounded, ranges_single}
+use Rattle.graph_text.proofs.GraphOfLines.{AreSound-from_line, earliest-none, refused-empty, filter-empty, edges_inside, edges_distinct, few_edges, few-from_none, range_each, ranges_bounded, ranges_single}
+use Rattle.graph_text.proofs.RunsOfLists.{constraints-runs, constraints-distinct}
 use Rattle.graph_text.proofs.Splitting.{fields_are_fields}
 
 -- what a graph is read as where nothing is refused
@@ -157,26 +158,28 @@ fits Interval graph lines each inside single none = tt
 fits (Abs k) graph lines each inside single none = single refl
 
 accepted-lines : (mode : Mode) (lines : List Line) → All HasFields lines → refusal_of mode lines (raw_graph_of mode lines) ≡ None → IsAccepted mode (raw_graph_of mode lines)
-unfolding IsDistinct
 accepted-lines mode lines fields none =
     let graph = raw_graph_of mode lines in
-    let line = or_else-none (earliest (line_refusals mode lines)) (or_else (earliest (refused Cycle (cycle_lines graph lines))) (earliest (refused Unconserved (unconserved_lines mode graph lines))))
-    (or_else-none (earliest (refused Later (run_lines lines))) _ none).1 in
-    let graphs = or_else-none (earliest (refused Cycle (cycle_lines graph lines))) (earliest (refused Unconserved (unconserved_lines mode graph lines))) line.1 in
+    let flow = earliest (refused Unconserved (unconserved_lines mode graph lines)) in
+    let unknown = earliest (refused UnknownEdge (unknown_lines graph lines)) in
+    let line = or_else-none (earliest (line_refusals mode lines)) (or_else (earliest (refused Cycle (cycle_lines graph lines))) (or_else unknown flow)) none in
+    let cycle = or_else-none (earliest (refused Cycle (cycle_lines graph lines))) (or_else unknown flow) line.1 in
+    let last = or_else-none unknown flow cycle.1 in
+    let known = refused-empty UnknownEdge (unknown_lines graph lines) (earliest-none (refused UnknownEdge (unknown_lines graph lines)) last.0) in
     let sound = AreSound-from_line mode lines line.0 in
     let each : edge_count graph.net ≡ length (edge_lines lines) = length-map (edge_lines lines) (edge_of (names_of lines)) in
     let inside = edges_inside mode lines sound in
     let distinct_edges = edges_distinct mode lines sound in
-    let cycles : cycle_lines graph lines ≡ [] = refused-empty Cycle _ (earliest-none _ graphs.0) in
+    let cycles : cycle_lines graph lines ≡ [] = refused-empty Cycle _ (earliest-none _ cycle.0) in
     let net : IsNet graph.net = IsNet-by_edges graph.net inside distinct_edges (λ e within. lines_where-empty (closes_cycle graph.net) lines cycles e (omega arith)) in
     record {
       instance = record {
         net = net;
         ranged = range_each mode lines sound;
         bounded = ranges_bounded mode lines sound;
-        runs = refl;
-        distinct = tt;
-        fits = fits mode graph lines each inside (ranges_single mode lines sound) (refused-empty Unconserved _ (earliest-none _ graphs.1));
+        runs = constraints-runs lines known;
+        distinct = constraints-distinct lines known inside;
+        fits = fits mode graph lines each inside (ranges_single mode lines sound) (refused-empty Unconserved _ (earliest-none _ last.1));
       };
       labels = record {
         fields = names-fields lines fields;
@@ -186,6 +189,8 @@ accepted-lines mode lines fields none =
       };
       edges = refl;
       vertices = refl;
+      few_edges = few_edges mode lines sound;
+      few_runs = omega (arith, few-from_none most_constraints (constraint_lines lines) sound.few_constraints, length-map (constraint_lines lines) (λ l. run_of (names_of lines) (edges_of lines) (listed l)));
     }
 
 pub graphs_are_accepted : GraphsAreAccepted

@@ -15,10 +15,10 @@ abbrev pub merge : Option Refusal → Option Refusal → Option Refusal
 merge None other = other
 merge (Some r) other = earlier r other
 
-earlier-first : (r s : Refusal) → r.line ≤ s.line → earlier r (Some s) ≡ Some r
+pub earlier-first : (r s : Refusal) → r.line ≤ s.line → earlier r (Some s) ≡ Some r
 earlier-first r s h = cond-true (leb r.line s.line) (Some r) (Some s) (le-leb r.line s.line h)
 
-earlier-second : (r s : Refusal) → s.line < r.line → earlier r (Some s) ≡ Some s
+pub earlier-second : (r s : Refusal) → s.line < r.line → earlier r (Some s) ≡ Some s
 earlier-second r s h = cond-false (leb r.line s.line) (Some r) (Some s) (lt-leb r.line s.line h)
 
 earlier-merge : (r : Refusal) (a b : Option Refusal) → earlier r (merge a b) ≡ merge (earlier r a) b
@@ -26,6 +26,10 @@ earlier-merge r None b = refl
 earlier-merge r (Some s) None =
     cond_both (leb r.line s.line) (Some r) (Some s) (λ o. o ≡ merge o None) (λ _. refl) (λ _. refl)
 earlier-merge r (Some s) (Some t) = grind (arith, nat_tests)
+
+pub merge-assoc : (a b c : Option Refusal) → merge (merge a b) c ≡ merge a (merge b c)
+merge-assoc None b c = refl
+merge-assoc (Some r) b c = sym (earlier-merge r b c)
 
 pub earliest-append : (xs ys : List Refusal) → earliest (xs ++ ys) ≡ merge (earliest xs) (earliest ys)
 earliest-append [] ys = refl
@@ -37,7 +41,7 @@ earlier-IfSome P r None h k = h
 earlier-IfSome P r (Some s) h k =
     cond_both (leb r.line s.line) (Some r) (Some s) (λ o. IfSome o P) (λ _. h) (λ _. k)
 
-merge-IfSome : (P : Refusal → Type 0) (a b : Option Refusal) → IfSome a P → IfSome b P → IfSome (merge a b) P
+pub merge-IfSome : (P : Refusal → Type 0) (a b : Option Refusal) → IfSome a P → IfSome b P → IfSome (merge a b) P
 merge-IfSome P None b h k = k
 merge-IfSome P (Some r) b h k = earlier-IfSome P r b h k
 

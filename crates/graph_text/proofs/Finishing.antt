@@ -1,12 +1,12 @@
 -- Finishing a block: the refusals of all of its lines, and those of its graph, from what a builder of nets finds.
-use Rattle.std.proofs.Common.{◌≡◌, ◌≢◌, ℕ, zero, suc, ◌+◌, ◌-◌, ◌<◌, ◌≤◌, Bool, true, false, not, leb, ◌||◌, List, [], ◌∷◌, ◌++◌, map, filter, length, take, drop, get_or, refl, sym, ap, subst, ◌∙◌, ⊎_elim, arith}
+use Rattle.std.proofs.Common.{◌≡◌, ◌≢◌, ℕ, zero, suc, ◌+◌, ◌<◌, ◌≤◌, Bool, true, false, not, leb, ◌||◌, List, [], ◌∷◌, ◌++◌, map, filter, length, take, drop, get_or, refl, sym, ap, subst, ◌∙◌, ⊎_elim, arith}
 use Rattle.std.specs.Prelude.{All, AllPairs, IsTrue, ◌==◌, Option, Some, None}
 use Rattle.std.specs.List.{enumerate_from, list_all}
 use Rattle.std.specs.Prelude.{nat_lt}
 use Rattle.std.specs.Option.{IfSome}
-use Rattle.std.proofs.lemmas.Bool.{cases_Bool, cond-true, cond-false, and_from, and_left, and_right, false_from_ne_true, ne_eqb, eq-eqb, le-leb, cases_lt}
-use Rattle.std.proofs.lemmas.List.{append-nil, drop_all, take_all, drop_more, get_or_default, get_or-take, length-take-le}
-use Rattle.std.proofs.lemmas.List.Elements.{All-cons, All-head, All-tail, All-map, All-filter, filter-append}
+use Rattle.std.proofs.lemmas.Bool.{cases_Bool, cond-true, cond-false, and_from, and_left, and_right, or_left, or_right, or_from, not-false, false_from_ne_true, ne_eqb, eq-eqb, le-leb, lt-ltb, le-ltb, cases_lt}
+use Rattle.std.proofs.lemmas.List.{append-nil, take_all, get_or_default, get_or-take, length-take-le}
+use Rattle.std.proofs.lemmas.List.Elements.{All-cons, All-head, All-tail, All-map, All-filter, All-take, All-drop, filter-append}
 use Rattle.std.proofs.lemmas.List.Kept.{AllPairs-filter}
 use Rattle.decomposition.specs.declared.Mode.{Mode}
 use Rattle.decomposition.specs.declared.Mode.TheVariants.{Exact}
@@ -18,13 +18,16 @@ use Rattle.decomposition.proofs.Reaching.{closes_none, closes_some}
 use Rattle.decomposition.proofs.Walks.{edge_out_of}
 use Rattle.dag_net.specs.Build.{FollowsNet, IsRepeated, ClosesCycle, IsInside}
 use Rattle.graph_text.specs.declared.refusal.Why.{Why}
-use Rattle.graph_text.specs.declared.refusal.Why.TheVariants.{LongLine, BadCount, BadFields, BadWeight, BadRange, RepeatedEdge, TooManyEdges, Cycle, Unconserved}
+use Rattle.graph_text.specs.declared.refusal.Why.TheVariants.{LongLine, BadCount, BadFields, BadWeight, BadRange, RepeatedEdge, TooManyEdges, TooManyConstraints, ShortConstraint, Cycle, Unconserved}
 use Rattle.graph_text.specs.declared.refusal.Refusal.{Refusal}
 use Rattle.graph_text.specs.declared.block.RawGraph.{RawGraph}
 use Rattle.graph_text.specs.Draft.{settled_refusals}
-use Rattle.graph_text.specs.Reading.{Line, most_edges, filled_lines, content_lines, count_lines, edge_lines, long_lines, last_filled, is_count, weights_of, last_fields, is_weight, range_of, refused, bad_counts, bad_fields, bad_weights, bad_ranges, repeats, line_refusals, earlier, earliest, or_else, lines_where, closes_cycle, cycle_lines, is_unbalanced, unconserved_lines, lines_naming, most_bytes}
-use Rattle.graph_text.specs.Lines.{are_no_fields, are_hash_fields}
-use Rattle.graph_text.proofs.Earliest.{merge, earliest-append, earliest-All}
+use Rattle.graph_text.specs.LineFaults.{is_of_length, without_count}
+use Rattle.graph_text.specs.Reading.{Line, most_edges, most_constraints, run_lines, is_short, short_lines, constraint_lines, filled_lines, content_lines, count_lines, edge_lines, long_lines, last_filled, is_count, weights_of, last_fields, is_weight, range_of, refused, bad_counts, bad_fields, bad_weights, bad_ranges, repeats, line_refusals, earlier, earliest, lines_where, closes_cycle, cycle_lines, is_unbalanced, unconserved_lines, lines_naming, most_bytes}
+use Rattle.graph_text.specs.Lines.{are_no_fields, are_hash_fields, are_run_fields}
+use Rattle.graph_text.proofs.FirstLists.{first_listed-All, filter_twice}
+use Rattle.graph_text.proofs.Earliest.{merge, merge-assoc, merge-IfSome, earlier-first, earlier-second, earliest-append, earliest-All}
+use Rattle.graph_text.proofs.KindsOfLines.{no_run-blank}
 
 -- the numbers of lines rise
 abbrev pub Rises : List Line → Type 0
@@ -36,41 +39,50 @@ line_refusals-content mode lines some =
     let differs : length (content_lines lines) ≡ 0 → ⊥ = λ e. omega arith in
     ap (λ counts. refused LongLine (long_lines lines) ++ refused BadCount counts ++ refused BadFields (bad_fields mode lines)
     ++ refused BadWeight (bad_weights mode lines) ++ refused BadRange (bad_ranges mode lines)
-    ++ refused RepeatedEdge (repeats (edge_lines lines)) ++ refused TooManyEdges (take 1 (drop most_edges (edge_lines lines))))
+    ++ refused RepeatedEdge (repeats (edge_lines lines)) ++ refused TooManyEdges (take 1 (drop most_edges (edge_lines lines)))
+    ++ refused TooManyConstraints (take 1 (drop most_constraints (constraint_lines lines))) ++ refused ShortConstraint (short_lines lines))
     (cond-false (length (content_lines lines) == 0) (last_filled lines) (filter (λ l. not (is_count l.fields)) (count_lines lines)) (ne_eqb (length (content_lines lines)) 0 differs))
 
-merge-later : (o : Option Refusal) (r : Refusal) → IfSome o (λ s. s.line ≤ r.line) → merge o (Some r) ≡ or_else o (Some r)
-merge-later None r low = refl
-merge-later (Some s) r low = cond-true (leb s.line r.line) (Some s) (Some r) (le-leb s.line r.line low)
+-- the refusal that stands, where it counts before that of the last line
+stands : (s : Refusal) (n : ℕ) → (nat_lt s.line n || is_of_length s.why) ≡ true → s ≡ without_count (Some s) n
+stands s n h = sym (cond-true (nat_lt s.line n || is_of_length s.why) s (record { line = n; why = BadCount }) h)
 
--- the refusal of the last line is later than one of a line before it
-merge-last : (o : Option Refusal) (lines : List Line) → Rises lines → ((n : ℕ) → All (λ l. l.number ≤ n) lines → IfSome o (λ s. s.line ≤ n))
-    → merge o (earliest (refused BadCount (drop (length lines - 1) lines))) ≡ or_else o (earliest (refused BadCount (drop (length lines - 1) lines)))
-merge-last o [] rises low = nothing o
-  where
-    nothing : (o : Option Refusal) → merge o None ≡ or_else o None
-    nothing None = refl
-    nothing (Some s) = refl
-merge-last o (l ∷ ls) rises low =
-    ap (λ ks. merge o (earliest (refused BadCount ks))) last
-    ∙ merge-later o (record { line = (get_or (l ∷ ls) (length ls) l).number; why = BadCount }) (low (get_or (l ∷ ls) (length ls) l).number under)
-    ∙ ap (λ ks. or_else o (earliest (refused BadCount ks))) (sym last)
-  where
-    last : drop (length (l ∷ ls) - 1) (l ∷ ls) ≡ get_or (l ∷ ls) (length ls) l ∷ []
-    last =
-        let e : length (l ∷ ls) - 1 ≡ length ls = omega arith in
-        ap (λ n. drop n (l ∷ ls)) e ∙ drop_more (l ∷ ls) (length ls) l (omega arith) ∙ ap (λ ks. get_or (l ∷ ls) (length ls) l ∷ ks) (drop_all (length ls + 1) (l ∷ ls) (omega arith))
+-- Of the last line `BadCount` is named, unless a line before it is refused or it is too long.
+merge-last : (n : ℕ) (l r : Option Refusal) → IfSome l (λ s. (is_of_length s.why ≡ true) × (s.line ≤ n)) → IfSome r (λ s. (is_of_length s.why ≡ false) × (s.line ≤ n))
+    → merge (merge l (Some (record { line = n; why = BadCount }))) r ≡ Some (without_count (merge l r) n)
+merge-last n None None long other = refl
+merge-last n None (Some s) long other =
+    let last : Refusal = record { line = n; why = BadCount } in
+    ⊎_elim
+    (λ less. earlier-second last s less ∙ ap Some (stands s n (or_left (nat_lt s.line n) (is_of_length s.why) (lt-ltb s.line n less))))
+    (λ more. earlier-first last s more ∙ ap Some (sym (cond-false (nat_lt s.line n || is_of_length s.why) s last (or_from (nat_lt s.line n) (is_of_length s.why) (le-ltb s.line n more) other.0))))
+    (cases_lt s.line n)
+merge-last n (Some s) None long other =
+    ap (λ o. merge o None) (earlier-first s (record { line = n; why = BadCount }) long.1)
+    ∙ ap Some (stands s n (or_right (nat_lt s.line n) (is_of_length s.why) long.0))
+merge-last n (Some s) (Some t) long other =
+    ap (λ o. merge o (Some t)) (earlier-first s (record { line = n; why = BadCount }) long.1)
+    ∙ ⊎_elim
+    (λ less.
+    earlier-second s t less ∙ ap Some (stands t n (or_left (nat_lt t.line n) (is_of_length t.why) (lt-ltb t.line n (omega arith))))
+    ∙ sym (ap (λ o. Some (without_count o n)) (earlier-second s t less)))
+    (λ more.
+    earlier-first s t more ∙ ap Some (stands s n (or_right (nat_lt s.line n) (is_of_length s.why) long.0))
+    ∙ sym (ap (λ o. Some (without_count o n)) (earlier-first s t more)))
+    (cases_lt t.line s.line)
 
-    under : All (λ k. k.number ≤ (get_or (l ∷ ls) (length ls) l).number) (l ∷ ls)
-    under k d within =
-        ⊎_elim
-        (λ less. subst (λ (x : Line). x.number ≤ (get_or (l ∷ ls) (length ls) l).number) (get_or_default (l ∷ ls) k l d within) (rises k (length ls) l less (omega arith)))
-        (λ more. let same : k ≡ length ls = omega arith in
-        subst (λ (x : Line). x.number ≤ (get_or (l ∷ ls) (length ls) l).number) (ap (λ n. get_or (l ∷ ls) n l) (sym same) ∙ get_or_default (l ∷ ls) k l d within) (omega arith))
-        (cases_lt k (length ls))
+-- a `#S` line is not blank
+filled-runs : (lines : List Line) → filter (λ l. are_run_fields l.fields) (filled_lines lines) ≡ run_lines lines
+filled-runs lines = filter_twice (λ (l : Line). are_run_fields l.fields) (λ l. not (are_no_fields l.fields)) (λ l blank. no_run-blank l.fields (not-false _ blank)) lines
 
 -- Without one each edge line is missing, and the last line that is not blank is refused besides.
 module _ (mode : Mode) (lines : List Line) (none : content_lines lines ≡ []) where
+  abbrev crowd : List Refusal
+  crowd = refused TooManyConstraints (take 1 (drop most_constraints (constraint_lines lines)))
+
+  abbrev short : List Refusal
+  short = refused ShortConstraint (short_lines lines)
+
   with_edges : (counts : List Refusal) (edges : List Line) → List Refusal
   with_edges counts edges =
       refused LongLine (long_lines lines) ++ counts
@@ -79,58 +91,73 @@ module _ (mode : Mode) (lines : List Line) (none : content_lines lines ≡ []) w
       ++ refused BadRange (filter (λ l. let r = range_of mode l in nat_lt r.hi r.lo) edges)
       ++ refused RepeatedEdge (repeats edges)
       ++ refused TooManyEdges (take 1 (drop most_edges edges))
+      ++ crowd ++ short
 
-  without_edges : (counts : List Refusal) → with_edges counts (edge_lines lines) ≡ refused LongLine (long_lines lines) ++ counts
+  without_edges : (counts : List Refusal) → with_edges counts (edge_lines lines) ≡ refused LongLine (long_lines lines) ++ counts ++ crowd ++ short
   unfolding with_edges
   without_edges counts =
       ap (λ content. with_edges counts (drop 1 content)) none
-      ∙ append-nil _ ∙ append-nil _ ∙ append-nil _ ∙ append-nil _ ∙ append-nil _
+      ∙ ap (λ front. front ++ crowd ++ short) (five (refused LongLine (long_lines lines) ++ counts))
+    where
+      five : (front : List Refusal) → front ++ [] ++ [] ++ [] ++ [] ++ [] ≡ front
+      five front = append-nil _ ∙ append-nil _ ∙ append-nil _ ∙ append-nil _ ∙ append-nil _
 
-  settled-none : settled_refusals mode lines ≡ refused LongLine (long_lines lines)
+  three : (front : List Refusal) → earliest (front ++ crowd ++ short) ≡ merge (earliest front) (merge (earliest crowd) (earliest short))
+  three front =
+      earliest-append (front ++ crowd) short ∙ ap (λ o. merge o (earliest short)) (earliest-append front crowd)
+      ∙ merge-assoc (earliest front) (earliest crowd) (earliest short)
+
+  settled-none : earliest (settled_refusals mode lines) ≡ merge (earliest (refused LongLine (long_lines lines))) (merge (earliest crowd) (earliest short))
   unfolding with_edges
   settled-none =
-      without_edges (refused BadCount (filter (λ l. not (is_count l.fields)) (count_lines lines)))
-      ∙ ap (λ content. refused LongLine (long_lines lines) ++ refused BadCount (filter (λ l. not (is_count l.fields)) (take 1 content))) none
-      ∙ append-nil (refused LongLine (long_lines lines))
+      ap earliest
+      (without_edges (refused BadCount (filter (λ l. not (is_count l.fields)) (count_lines lines)))
+      ∙ ap (λ content. refused LongLine (long_lines lines) ++ refused BadCount (filter (λ l. not (is_count l.fields)) (take 1 content)) ++ crowd ++ short) none
+      ∙ ap (λ front. front ++ crowd ++ short) (append-nil (refused LongLine (long_lines lines))))
+      ∙ three (refused LongLine (long_lines lines))
 
-  line-none : line_refusals mode lines ≡ refused LongLine (long_lines lines) ++ refused BadCount (last_filled lines)
+  line-none : earliest (line_refusals mode lines) ≡ merge (merge (earliest (refused LongLine (long_lines lines))) (earliest (refused BadCount (last_filled lines)))) (merge (earliest crowd) (earliest short))
   unfolding with_edges
   line-none =
-      without_edges (refused BadCount (bad_counts lines))
-      ∙ ap (λ counts. refused LongLine (long_lines lines) ++ refused BadCount counts)
-      (cond-true (length (content_lines lines) == 0) (last_filled lines) (filter (λ l. not (is_count l.fields)) (count_lines lines)) (eq-eqb (length (content_lines lines)) 0 (ap length none)))
+      ap earliest
+      (without_edges (refused BadCount (bad_counts lines))
+      ∙ ap (λ counts. refused LongLine (long_lines lines) ++ refused BadCount counts ++ crowd ++ short)
+      (cond-true (length (content_lines lines) == 0) (last_filled lines) (filter (λ l. not (is_count l.fields)) (count_lines lines)) (eq-eqb (length (content_lines lines)) 0 (ap length none))))
+      ∙ three (refused LongLine (long_lines lines) ++ refused BadCount (last_filled lines))
+      ∙ ap (λ o. merge o (merge (earliest crowd) (earliest short))) (earliest-append (refused LongLine (long_lines lines)) (refused BadCount (last_filled lines)))
 
-  -- whatever the numbers of the lines are
-  pub line_refusals-none : earliest (line_refusals mode lines) ≡ merge (earliest (settled_refusals mode lines)) (earliest (refused BadCount (last_filled lines)))
-  line_refusals-none =
-      ap earliest line-none ∙ earliest-append (refused LongLine (long_lines lines)) (refused BadCount (last_filled lines))
-      ∙ ap (λ rs. merge (earliest rs) (earliest (refused BadCount (last_filled lines)))) (sym settled-none)
+  module _ (n : ℕ) (low : All (λ l. l.number ≤ n) (filled_lines lines)) where
+    long-low : IfSome (earliest (refused LongLine (long_lines lines))) (λ s. (is_of_length s.why ≡ true) × (s.line ≤ n))
+    long-low =
+        earliest-All (λ s. (is_of_length s.why ≡ true) × (s.line ≤ n)) (refused LongLine (long_lines lines))
+        (All-map (λ s. (is_of_length s.why ≡ true) × (s.line ≤ n)) (λ (l : Line). record { line = l.number; why = LongLine }) (long_lines lines)
+        (λ k d within. (refl, All-filter (λ (l : Line). nat_lt most_bytes l.bytes) (λ l. l.number ≤ n) (filled_lines lines) low k d within)))
 
-  long-low : (n : ℕ) → All (λ l. l.number ≤ n) (filled_lines lines) → IfSome (earliest (settled_refusals mode lines)) (λ s. s.line ≤ n)
-  long-low n low =
-      subst (λ rs. IfSome (earliest rs) (λ s. s.line ≤ n)) (sym settled-none)
-      (earliest-All (λ s. s.line ≤ n) (refused LongLine (long_lines lines))
-      (All-map (λ s. s.line ≤ n) (λ (l : Line). record { line = l.number; why = LongLine }) (long_lines lines)
-      (All-filter (λ (l : Line). nat_lt most_bytes l.bytes) (λ l. l.number ≤ n) (filled_lines lines) low)))
+    other-low : (why : Why) (ls : List Line) → is_of_length why ≡ false → All (λ l. l.number ≤ n) ls → IfSome (earliest (refused why ls)) (λ s. (is_of_length s.why ≡ false) × (s.line ≤ n))
+    other-low why ls other below =
+        earliest-All (λ s. (is_of_length s.why ≡ false) × (s.line ≤ n)) (refused why ls)
+        (All-map (λ s. (is_of_length s.why ≡ false) × (s.line ≤ n)) (λ (l : Line). record { line = l.number; why = why }) ls (λ k d within. (other, below k d within)))
 
-  -- where the numbers rise, a refusal that stays comes before that of the last line
-  pub line_refusals-rising : Rises lines → earliest (line_refusals mode lines) ≡ or_else (earliest (settled_refusals mode lines)) (earliest (refused BadCount (last_filled lines)))
-  line_refusals-rising rises =
-      line_refusals-none
-      ∙ merge-last (earliest (settled_refusals mode lines)) (filled_lines lines) (AllPairs-filter (λ a b. a.number ≤ b.number) (λ l. not (are_no_fields l.fields)) lines rises)
-      long-low
+    runs-low : All (λ l. l.number ≤ n) (run_lines lines)
+    runs-low = subst (All (λ l. l.number ≤ n)) (filled-runs lines) (All-filter (λ l. are_run_fields l.fields) (λ l. l.number ≤ n) (filled_lines lines) low)
 
-  -- the same by the number of the last line
-  pub line_refusals-last : (n : ℕ) → map (λ l. l.number) (last_filled lines) ≡ n ∷ [] → All (λ l. l.number ≤ n) (filled_lines lines)
-      → earliest (line_refusals mode lines) ≡ or_else (earliest (settled_refusals mode lines)) (Some (record { line = n; why = BadCount }))
-  line_refusals-last n is low =
-      line_refusals-none ∙ ap (merge (earliest (settled_refusals mode lines))) (by (last_filled lines) is)
-      ∙ merge-later (earliest (settled_refusals mode lines)) (record { line = n; why = BadCount }) (long-low n low)
-    where
-      by : (ls : List Line) → map (λ l. l.number) ls ≡ n ∷ [] → earliest (refused BadCount ls) ≡ Some (record { line = n; why = BadCount })
-      by [] is = absurd (let e : n ∷ [] ≡ [] = sym is in cc)
-      by (l ∷ []) is = let e : l.number ∷ [] ≡ n ∷ [] = is in let same : l.number ≡ n = cc in ap (λ m. Some (record { line = m; why = BadCount })) same
-      by (l ∷ k ∷ ls) is = absurd (let e : l.number ∷ (k.number ∷ map (λ l. l.number) ls) ≡ n ∷ [] = is in cc)
+    -- The last line that is not blank is refused, unless a refusal that stays counts before it.
+    pub line_refusals-last : map (λ l. l.number) (last_filled lines) ≡ n ∷ [] → earliest (line_refusals mode lines) ≡ Some (without_count (earliest (settled_refusals mode lines)) n)
+    line_refusals-last is =
+        line-none
+        ∙ ap (λ o. merge (merge (earliest (refused LongLine (long_lines lines))) o) (merge (earliest crowd) (earliest short))) (by (last_filled lines) is)
+        ∙ merge-last n (earliest (refused LongLine (long_lines lines))) (merge (earliest crowd) (earliest short)) long-low
+        (merge-IfSome (λ s. (is_of_length s.why ≡ false) × (s.line ≤ n)) (earliest crowd) (earliest short)
+        (other-low TooManyConstraints (take 1 (drop most_constraints (constraint_lines lines))) refl
+        (All-take (λ (l : Line). l.number ≤ n) 1 (drop most_constraints (constraint_lines lines)) (All-drop (λ (l : Line). l.number ≤ n) most_constraints (constraint_lines lines)
+        (first_listed-All (λ l. l.number ≤ n) (filter (λ l. not (is_short l)) (run_lines lines)) (All-filter (λ l. not (is_short l)) (λ l. l.number ≤ n) (run_lines lines) runs-low)))))
+        (other-low ShortConstraint (short_lines lines) refl (All-filter is_short (λ (l : Line). l.number ≤ n) (run_lines lines) runs-low)))
+        ∙ ap (λ o. Some (without_count o n)) (sym settled-none)
+      where
+        by : (ls : List Line) → map (λ l. l.number) ls ≡ n ∷ [] → earliest (refused BadCount ls) ≡ Some (record { line = n; why = BadCount })
+        by [] is = absurd (let e : n ∷ [] ≡ [] = sym is in cc)
+        by (l ∷ []) is = let e : l.number ∷ [] ≡ n ∷ [] = is in let same : l.number ≡ n = cc in ap (λ m. Some (record { line = m; why = BadCount })) same
+        by (l ∷ k ∷ ls) is = absurd (let e : l.number ∷ (k.number ∷ map (λ l. l.number) ls) ≡ n ∷ [] = is in cc)
 
 -- the earliest refusal of a line and others behind it
 pub earliest-least : (why : Why) (l : Line) (lines : List Line) → All (λ k. l.number ≤ k.number) lines → earliest (refused why (l ∷ lines)) ≡ Some (record { line = l.number; why = why })

@@ -14,10 +14,10 @@ use Rattle.decomposition.specs.declared.Mode.{Mode}
 use Rattle.decomposition.specs.declared.Range.{Range}
 use Rattle.decomposition.proofs.Open.{all-from_places}
 use Rattle.graph_text.specs.declared.refusal.Why.{Why}
-use Rattle.graph_text.specs.declared.refusal.Why.TheVariants.{BadFields, BadWeight, BadRange, RepeatedEdge, TooManyEdges}
+use Rattle.graph_text.specs.declared.refusal.Why.TheVariants.{BadFields, BadWeight, BadRange, RepeatedEdge, TooManyEdges, TooManyConstraints, ShortConstraint}
 use Rattle.graph_text.specs.declared.refusal.Refusal.{Refusal}
 use Rattle.graph_text.specs.Draft.{settled_refusals}
-use Rattle.graph_text.specs.Reading.{Line, most_edges, most_weight, edge_lines, ends_of, same_fields, last_fields, weights_of, value_of, range_in, range_of, refused, bad_fields, bad_weights, bad_ranges, repeats, line_refusals, earlier, earliest, names_of, edges_of, vertex_of, pair_in, edge_of, is_weight_form, number_of}
+use Rattle.graph_text.specs.Reading.{Line, most_edges, most_constraints, constraint_lines, short_lines, most_weight, edge_lines, ends_of, same_fields, last_fields, weights_of, value_of, range_in, range_of, refused, bad_fields, bad_weights, bad_ranges, repeats, line_refusals, earlier, earliest, names_of, edges_of, vertex_of, pair_in, edge_of, is_weight_form, number_of}
 use Rattle.graph_text.proofs.Places.{place_of_contained}
 use Rattle.graph_text.proofs.Mentions.{ends-Contains}
 
@@ -51,20 +51,24 @@ few-from_none n xs h =
     let e : length (take 1 (drop n xs)) ≡ 0 = ap length h in
     omega (arith, length-take 1 (drop n xs), length-drop n xs)
 
--- no line is refused for its fields, its weights, its range, a repeated edge, or as one too many
+-- no line is refused for its fields, its weights, its range, a repeated edge, or as one edge or one constraint too many
 pub record AreSound (mode : Mode) (lines : List Line) : Type 0 where
   pub fields : bad_fields mode lines ≡ []
   pub weights : bad_weights mode lines ≡ []
   pub ranges : bad_ranges mode lines ≡ []
   pub once : repeats (edge_lines lines) ≡ []
   pub few : take 1 (drop most_edges (edge_lines lines)) ≡ []
+  pub few_constraints : take 1 (drop most_constraints (constraint_lines lines)) ≡ []
 
 sound-parts : (mode : Mode) (lines : List Line) (front : List Refusal)
     → front ++ refused BadFields (bad_fields mode lines) ++ refused BadWeight (bad_weights mode lines) ++ refused BadRange (bad_ranges mode lines)
-    ++ refused RepeatedEdge (repeats (edge_lines lines)) ++ refused TooManyEdges (take 1 (drop most_edges (edge_lines lines))) ≡ []
+    ++ refused RepeatedEdge (repeats (edge_lines lines)) ++ refused TooManyEdges (take 1 (drop most_edges (edge_lines lines)))
+    ++ refused TooManyConstraints (take 1 (drop most_constraints (constraint_lines lines))) ++ refused ShortConstraint (short_lines lines) ≡ []
     → AreSound mode lines
 sound-parts mode lines front none =
-    let many = append-empty _ (refused TooManyEdges (take 1 (drop most_edges (edge_lines lines)))) none in
+    let short = append-empty _ (refused ShortConstraint (short_lines lines)) none in
+    let crowd = append-empty _ (refused TooManyConstraints (take 1 (drop most_constraints (constraint_lines lines)))) short.0 in
+    let many = append-empty _ (refused TooManyEdges (take 1 (drop most_edges (edge_lines lines)))) crowd.0 in
     let repeated = append-empty _ (refused RepeatedEdge (repeats (edge_lines lines))) many.0 in
     let ranges = append-empty _ (refused BadRange (bad_ranges mode lines)) repeated.0 in
     let weights = append-empty _ (refused BadWeight (bad_weights mode lines)) ranges.0 in
@@ -75,6 +79,7 @@ sound-parts mode lines front none =
       ranges = refused-empty BadRange _ ranges.1;
       once = refused-empty RepeatedEdge _ repeated.1;
       few = refused-empty TooManyEdges _ many.1;
+      few_constraints = refused-empty TooManyConstraints _ crowd.1;
     }
 
 pub AreSound-from_settled : (mode : Mode) (lines : List Line) → earliest (settled_refusals mode lines) ≡ None → AreSound mode lines

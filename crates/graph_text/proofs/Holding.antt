@@ -1,5 +1,5 @@
 -- What a cutter holds, step by step.
-use Rattle.std.specs.Prelude.{◌≡◌, ℕ, ◌+◌, ◌-◌, ◌<◌, ◌≤◌, ◌==◌, List, [], ◌∷◌, ◌++◌, length, take, drop, Bool, true, false, not, ◌&&◌, ◌||◌, if◌then◌else◌, zero, suc, refl, Result, All, nat_le, Some, None}
+use Rattle.std.specs.Prelude.{◌≡◌, ℕ, ◌+◌, ◌-◌, ◌<◌, ◌≤◌, List, [], ◌∷◌, ◌++◌, length, take, drop, Bool, true, false, not, ◌&&◌, ◌||◌, if◌then◌else◌, zero, suc, refl, Result, All, nat_le, Some, None}
 use Rattle.std.specs.Int.{from_bool}
 use Rattle.std.specs.List.{list_all, list_any, position_or_len, take_while}
 use Rattle.std.proofs.Common.{sym, ◌∙◌, ap, arith, subst, true≢false, get_or, length-append, append_assoc, append-nil, inl, inr}
@@ -17,11 +17,11 @@ use Rattle.graph_text.specs.declared.cutter.Cutter.{Cutter}
 use Rattle.graph_text.specs.Lines.{is_blank, is_blank_line, is_content_line, is_hash_line, is_run_line, begins_with_hash, without_return}
 use Rattle.graph_text.specs.Blocks.{name_in, name_of_lines, after_blanks, trimmed, blocks, complete, is_graph}
 use Rattle.graph_text.specs.Cutter.{Holds, HoldsBlock, IsCounted, Adds, NoMark, MayComplete, IsMark, GoesOn, Cuts, Completes, Continues, next_begun, handed, name_shown}
-use Rattle.graph_text.specs.Draft.{Drafts, ShowsLine, is_content}
+use Rattle.graph_text.specs.Draft.{Drafts, ShowsLine, is_content, is_run}
 use Rattle.graph_text.specs.Progress.{Progress, left_by, is_feed, with_line, with_open, after_byte, block_in, triggers, completed}
-use Rattle.graph_text.specs.Reading.{Line, line_at, numbered_lines, run_lines, read_lines}
+use Rattle.graph_text.specs.Reading.{Line, line_at, numbered_lines, read_lines}
 use Rattle.graph_text.proofs.KeptLines.{after_blanks-same, after_blanks-begins, skip_blank, skip_none}
-use Rattle.graph_text.proofs.Steps.{numbered_lines-push, numbered_lines-below, not_blank-graph, is_graph-filled, left_by-byte, left_by-span, complete-byte, complete-span, IsQuiet, IsQuiet-hashless, IsQuiet-begun, IsQuiet-unfilled, IsLeft-left_by, IsQuiet-blank, complete-earlier, any_content-numbered_lines, some_run_lines, no_run_lines, blocks-end}
+use Rattle.graph_text.proofs.Steps.{numbered_lines-push, numbered_lines-below, not_blank-graph, is_graph-filled, left_by-byte, left_by-span, complete-byte, complete-span, IsQuiet, IsQuiet-hashless, IsQuiet-begun, IsQuiet-unfilled, IsLeft-left_by, IsQuiet-blank, complete-earlier, any_content-numbered_lines, any_run-numbered, blocks-end}
 use Rattle.graph_text.proofs.Growing.{has_hash}
 
 -- a block whose name and body are these
@@ -289,17 +289,11 @@ Cuts-block old mid new bytes piece mark taken block goes mode may is_mark hands 
       first = λ m early. complete-earlier bytes piece m (taken + length blanks) (omega arith) (ap complete front ∙ quiet ∙ goes.same);
     }
 
-runs-told : (n : ℕ) (lines : List (List ℕ)) → not (length (run_lines (numbered_lines n lines)) == 0) ≡ list_any is_run_line lines
-runs-told n lines =
-    cases (list_any is_run_line lines) (not (length (run_lines (numbered_lines n lines)) == 0) ≡ list_any is_run_line lines)
-    (λ some. ap not (ne_eqb (length (run_lines (numbered_lines n lines))) 0 (λ e. absurd (omega (arith, some_run_lines n lines some)))) ∙ sym some)
-    (λ none. ap (λ l. not (length l == 0)) (no_run_lines n lines none) ∙ sym none)
-
 -- whether lines are a graph, as a draft of them tells it
 pub graph-is : (n : ℕ) (lines : List (List ℕ)) (r : Bool) →
-    r ≡ (list_any is_content (numbered_lines n lines) || not (length (run_lines (numbered_lines n lines)) == 0)) → r ≡ is_graph lines
+    r ≡ (list_any is_content (numbered_lines n lines) || list_any is_run (numbered_lines n lines)) → r ≡ is_graph lines
 graph-is n lines r e =
-    e ∙ (λ i. any_content-numbered_lines n lines i || runs-told n lines i)
+    e ∙ (λ i. any_content-numbered_lines n lines i || any_run-numbered n lines i)
 
 -- the end of a text that leaves no graph
 pub Continues-end : (bytes : List ℕ) → is_graph (with_open (left_by bytes).open_line (left_by bytes).ended) ≡ false → Continues (complete bytes) (blocks bytes) None

@@ -339,9 +339,6 @@ kept-longer bytes span old begun n room held n_is room_is begun_is =
     ∙ ap (λ l. kept bytes ++ take (most_kept - length (kept bytes)) l) (begun_is ∙ ap (λ k. if k == 0 then after_blanks span else span) count)
     ∙ sym (kept-more most_kept bytes span (omega arith))
 
-pub not_blank : (b : ℕ) → b ≢ 32 → b ≢ 9 → is_blank b ≡ false
-not_blank b space tab = ap (λ t. t || (b == 9)) (ne_eqb b 32 space) ∙ ne_eqb b 9 tab
-
 -- what is kept has no line feed, if the line has none
 any_take : (n : ℕ) (bytes : List ℕ) → list_any is_feed bytes ≡ false → list_any is_feed (take n bytes) ≡ false
 any_take zero bytes h = refl

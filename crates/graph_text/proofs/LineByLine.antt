@@ -5,11 +5,11 @@ use Rattle.std.proofs.lemmas.Bool.{cond-true, cond-false, cases_Bool, ne_eqb}
 use Rattle.std.proofs.lemmas.List.{append-nil, drop_at, length_push, take-append-le, drop-append-le}
 use Rattle.std.proofs.lemmas.List.Elements.{filter-append}
 use Rattle.decomposition.specs.declared.Mode.{Mode}
-use Rattle.graph_text.specs.declared.refusal.Why.TheVariants.{LongLine, BadCount, BadFields, BadWeight, BadRange, RepeatedEdge, TooManyEdges}
+use Rattle.graph_text.specs.declared.refusal.Why.TheVariants.{LongLine, BadCount, BadFields, BadWeight, BadRange, RepeatedEdge, TooManyEdges, TooManyConstraints, ShortConstraint}
 use Rattle.graph_text.specs.declared.refusal.Refusal.{Refusal}
 use Rattle.graph_text.specs.Lines.{are_no_fields, are_hash_fields, are_run_fields}
 use Rattle.graph_text.specs.ShownLine.{IsBlank, IsHash, IsContent}
-use Rattle.graph_text.specs.Reading.{Line, most_edges, filled_lines, content_lines, run_lines, count_lines, edge_lines, last_filled, long_lines, bad_fields, bad_weights, bad_ranges, repeats, is_count, refused, earliest, or_else}
+use Rattle.graph_text.specs.Reading.{Line, most_edges, most_constraints, filled_lines, content_lines, run_lines, count_lines, edge_lines, last_filled, long_lines, bad_fields, bad_weights, bad_ranges, repeats, constraint_lines, short_lines, is_count, refused, earliest, or_else}
 use Rattle.graph_text.specs.Draft.{is_content, settled_refusals}
 use Rattle.graph_text.proofs.Earliest.{Grows, Grows-append}
 
@@ -90,7 +90,7 @@ edge-more lines l h e =
     )
 
 -- what the refusals grow by, kind by kind
-pub record GrowsBy (line : ℕ) (mode : Mode) (lines lines' : List Line) (long count fields weight range repeat many : Option Refusal) : Type 0 where
+pub record GrowsBy (line : ℕ) (mode : Mode) (lines lines' : List Line) (long count fields weight range repeat many crowd short : Option Refusal) : Type 0 where
   pub long_grows : Grows line (earliest (refused LongLine (long_lines lines))) (earliest (refused LongLine (long_lines lines'))) long
   pub count_grows : Grows line (earliest (refused BadCount (filter (λ l. not (is_count l.fields)) (count_lines lines)))) (earliest (refused BadCount (filter (λ l. not (is_count l.fields)) (count_lines lines')))) count
   pub fields_grow : Grows line (earliest (refused BadFields (bad_fields mode lines))) (earliest (refused BadFields (bad_fields mode lines'))) fields
@@ -98,9 +98,11 @@ pub record GrowsBy (line : ℕ) (mode : Mode) (lines lines' : List Line) (long c
   pub ranges_grow : Grows line (earliest (refused BadRange (bad_ranges mode lines))) (earliest (refused BadRange (bad_ranges mode lines'))) range
   pub repeats_grow : Grows line (earliest (refused RepeatedEdge (repeats (edge_lines lines)))) (earliest (refused RepeatedEdge (repeats (edge_lines lines')))) repeat
   pub many_grow : Grows line (earliest (refused TooManyEdges (take 1 (drop most_edges (edge_lines lines))))) (earliest (refused TooManyEdges (take 1 (drop most_edges (edge_lines lines'))))) many
+  pub crowd_grows : Grows line (earliest (refused TooManyConstraints (take 1 (drop most_constraints (constraint_lines lines))))) (earliest (refused TooManyConstraints (take 1 (drop most_constraints (constraint_lines lines'))))) crowd
+  pub short_grows : Grows line (earliest (refused ShortConstraint (short_lines lines))) (earliest (refused ShortConstraint (short_lines lines'))) short
 
-pub Grows-all : (line : ℕ) (mode : Mode) (lines lines' : List Line) (m n o p q r s : Option Refusal) → GrowsBy line mode lines lines' m n o p q r s → Grows line (earliest (settled_refusals mode lines)) (earliest (settled_refusals mode lines')) (or_else (or_else (or_else (or_else (or_else (or_else m n) o) p) q) r) s)
-Grows-all line mode lines lines' m n o p q r s g =
+pub Grows-all : (line : ℕ) (mode : Mode) (lines lines' : List Line) (m n o p q r s t u : Option Refusal) → GrowsBy line mode lines lines' m n o p q r s t u → Grows line (earliest (settled_refusals mode lines)) (earliest (settled_refusals mode lines')) (or_else (or_else (or_else (or_else (or_else (or_else (or_else (or_else m n) o) p) q) r) s) t) u)
+Grows-all line mode lines lines' m n o p q r s t u g =
     let long = λ (x : List Line). refused LongLine (long_lines x) in
     let count = λ (x : List Line). refused BadCount (filter (λ l. not (is_count l.fields)) (count_lines x)) in
     let fields = λ (x : List Line). refused BadFields (bad_fields mode x) in
@@ -108,19 +110,33 @@ Grows-all line mode lines lines' m n o p q r s g =
     let range = λ (x : List Line). refused BadRange (bad_ranges mode x) in
     let repeat = λ (x : List Line). refused RepeatedEdge (repeats (edge_lines x)) in
     let many = λ (x : List Line). refused TooManyEdges (take 1 (drop most_edges (edge_lines x))) in
+    let crowd = λ (x : List Line). refused TooManyConstraints (take 1 (drop most_constraints (constraint_lines x))) in
+    let short = λ (x : List Line). refused ShortConstraint (short_lines x) in
     let two = λ (x : List Line). long x ++ count x in
     let three = λ (x : List Line). two x ++ fields x in
     let four = λ (x : List Line). three x ++ weight x in
     let five = λ (x : List Line). four x ++ range x in
     let six = λ (x : List Line). five x ++ repeat x in
-    Grows-append line (six lines) (many lines) (six lines') (many lines') (or_else (or_else (or_else (or_else (or_else m n) o) p) q) r) s
-    (Grows-append line (five lines) (repeat lines) (five lines') (repeat lines') (or_else (or_else (or_else (or_else m n) o) p) q) r
-    (Grows-append line (four lines) (range lines) (four lines') (range lines') (or_else (or_else (or_else m n) o) p) q
-    (Grows-append line (three lines) (weight lines) (three lines') (weight lines') (or_else (or_else m n) o) p
-    (Grows-append line (two lines) (fields lines) (two lines') (fields lines') (or_else m n) o
+    let seven = λ (x : List Line). six x ++ many x in
+    let eight = λ (x : List Line). seven x ++ crowd x in
+    let to_two = or_else m n in
+    let to_three = or_else to_two o in
+    let to_four = or_else to_three p in
+    let to_five = or_else to_four q in
+    let to_six = or_else to_five r in
+    let to_seven = or_else to_six s in
+    Grows-append line (eight lines) (short lines) (eight lines') (short lines') (or_else to_seven t) u
+    (Grows-append line (seven lines) (crowd lines) (seven lines') (crowd lines') to_seven t
+    (Grows-append line (six lines) (many lines) (six lines') (many lines') to_six s
+    (Grows-append line (five lines) (repeat lines) (five lines') (repeat lines') to_five r
+    (Grows-append line (four lines) (range lines) (four lines') (range lines') to_four q
+    (Grows-append line (three lines) (weight lines) (three lines') (weight lines') to_three p
+    (Grows-append line (two lines) (fields lines) (two lines') (fields lines') to_two o
     (Grows-append line (long lines) (count lines) (long lines') (count lines') m n g.long_grows g.count_grows)
     g.fields_grow)
     g.weights_grow)
     g.ranges_grow)
     g.repeats_grow)
-    g.many_grow
+    g.many_grow)
+    g.crowd_grows)
+    g.short_grows

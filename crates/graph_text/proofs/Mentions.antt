@@ -12,7 +12,7 @@ use Rattle.std.proofs.lemmas.Map.Made.{is_member-filter, Contains-tail}
 use Rattle.std.proofs.lemmas.Slice.Eq.{bytes_eq-Decides}
 use Rattle.graph_text.proofs.Members.{Contains-cons_cases, Contains-filter}
 use Rattle.graph_text.specs.Labels.{with_name}
-use Rattle.graph_text.specs.Reading.{Line, edge_lines, ends_of, distinct, names_of, vertex_of, pair_in, edge_of, edges_of}
+use Rattle.graph_text.specs.Reading.{Line, ends_of, distinct, vertex_of, pair_in, edge_of}
 use Rattle.graph_text.proofs.Naming.{Contains-with_name, Contains-with_name_same, vertex_of-kept}
 
 module _ (a : List ℕ) where
@@ -129,15 +129,3 @@ module _ (edges : List Line) (l : Line) (u v : List ℕ) (ends : ends_of l ≡ u
       (λ i d within. ap pair_in (map_agree (vertex_of (names_in (edges ++ l ∷ []))) (vertex_of (names_in edges)) (ends_of (get_or edges i d))
       (All-weaker _ _ same_number (ends_of (get_or edges i d)) (ends-Contains edges i d within)))))
       ∙ ap (λ ns. map (edge_of (names_in edges)) edges ++ pair_in (map (vertex_of (names_in (edges ++ l ∷ []))) ns) ∷ []) ends
-
--- the same for the lines of a block
-module _ (lines more : List Line) (l : Line) (u v : List ℕ) (edges : edge_lines more ≡ edge_lines lines ++ l ∷ []) (ends : ends_of l ≡ u ∷ v ∷ []) where
-  pub names_of-push : names_of more ≡ with_name (with_name (names_of lines) u) v
-  names_of-push = ap names_in edges ∙ names_in-push (edge_lines lines) l u v ends
-
-  pub edges_of-push : edges_of more ≡ edges_of lines ++ (vertex_of (with_name (names_of lines) u) u, vertex_of (names_of more) v) ∷ []
-  edges_of-push =
-      ap (λ es. map (edge_of (names_in es)) es) edges
-      ∙ edges_in-push (edge_lines lines) l u v ends
-      ∙ ap (λ n. edges_of lines ++ (n, vertex_of (names_in (edge_lines lines ++ l ∷ [])) v) ∷ []) (tail_number (edge_lines lines) l u v ends)
-      ∙ ap (λ es. edges_of lines ++ (vertex_of (with_name (names_of lines) u) u, vertex_of (names_in es) v) ∷ []) (sym edges)

@@ -8,12 +8,13 @@ use Rattle.decomposition.specs.declared.Mode.{Mode}
 use Rattle.decomposition.specs.declared.Mode.TheVariants.{Exact, Interval, Abs}
 use Rattle.decomposition.specs.Graph.{tail, head, below}
 use Rattle.graph_text.specs.declared.refusal.Why.{Why}
-use Rattle.graph_text.specs.declared.refusal.Why.TheVariants.{Later, LongLine, BadCount, BadFields, BadWeight, BadRange, RepeatedEdge, TooManyEdges, Cycle, Unconserved}
+use Rattle.graph_text.specs.declared.refusal.Why.TheVariants.{LongLine, BadCount, BadFields, BadWeight, BadRange, RepeatedEdge, TooManyEdges, TooManyConstraints, ShortConstraint, Cycle, UnknownEdge, Unconserved}
 use Rattle.graph_text.specs.declared.refusal.Refusal.{Refusal}
 use Rattle.graph_text.specs.declared.block.RawGraph.{RawGraph}
 use Rattle.graph_text.specs.Lines.{are_no_fields, are_hash_fields, are_run_fields}
 use Rattle.graph_text.specs.Blocks.{TextBlock, IsTextBlock}
-use Rattle.graph_text.specs.Reading.{Line, numbered_lines, filled_lines, content_lines, run_lines, count_lines, edge_lines, most_bytes, most_edges, weights_of, is_weight, last_fields, range_of, is_count, same_fields, ends_of, refused, long_lines, last_filled, bad_counts, bad_fields, bad_weights, bad_ranges, repeats, line_refusals, earliest, lines_where, closes_cycle, cycle_lines, is_unbalanced, lines_naming, unconserved_lines, or_else, refusal_of, err_or, read_lines, read, raw_graph_of}
+use Rattle.graph_text.specs.Reading.{Line, numbered_lines, filled_lines, content_lines, run_lines, count_lines, edge_lines, most_bytes, most_edges, most_constraints, listed, is_short, short_lines, constraint_lines, has_unknown, unknown_lines, weights_of, is_weight, last_fields, range_of, is_count, same_fields, ends_of, refused, long_lines, last_filled, bad_counts, bad_fields, bad_weights, bad_ranges, repeats, line_refusals, earliest, lines_where, closes_cycle, cycle_lines, is_unbalanced, lines_naming, unconserved_lines, or_else, refusal_of, err_or, read_lines, read, raw_graph_of}
+use Rattle.graph_text.proofs.FirstLists.{constraints-All}
 use Rattle.graph_text.proofs.Earliest.{earliest-All}
 use Rattle.graph_text.proofs.Steps.{numbered_lines-below}
 
@@ -61,8 +62,11 @@ module _ (P : ℕ → Type 0) where
       let ranges = refused-each BadRange (bad_ranges mode lines) (All-filter (λ (l : Line). nat_lt (range_of mode l).hi (range_of mode l).lo) OfLine (edge_lines lines) edges) in
       let again = refused-each RepeatedEdge (repeats (edge_lines lines)) (repeats-each (edge_lines lines) edges) in
       let many = refused-each TooManyEdges (take 1 (drop most_edges (edge_lines lines))) (All-take OfLine 1 (drop most_edges (edge_lines lines)) (All-drop OfLine most_edges (edge_lines lines) edges)) in
+      let runs = All-filter (λ (l : Line). are_run_fields l.fields) OfLine lines each in
+      let crowd = refused-each TooManyConstraints (take 1 (drop most_constraints (constraint_lines lines))) (All-take OfLine 1 (drop most_constraints (constraint_lines lines)) (All-drop OfLine most_constraints (constraint_lines lines) (constraints-All OfLine lines each))) in
+      let short = refused-each ShortConstraint (short_lines lines) (All-filter is_short OfLine (run_lines lines) runs) in
       let more = All-append OfRefusal in
-      more _ _ (more _ _ (more _ _ (more _ _ (more _ _ (more _ _ long counts) fields) weights) ranges) again) many
+      more _ _ (more _ _ (more _ _ (more _ _ (more _ _ (more _ _ (more _ _ (more _ _ long counts) fields) weights) ranges) again) many) crowd) short
 
   enumerate_from-each : (n : ℕ) (lines : List Line) → All OfLine lines → All (λ (p : ℕ × Line). OfLine p.1) (enumerate_from n lines)
   enumerate_from-each n [] each = All-nil (λ (p : ℕ × Line). OfLine p.1)
@@ -75,6 +79,11 @@ module _ (P : ℕ → Type 0) where
       let passes = λ (p : ℕ × Line). test p.0 in
       All-map OfLine (λ (p : ℕ × Line). p.1) (filter passes (enumerate_from 0 (edge_lines lines)))
       (All-filter passes (λ (p : ℕ × Line). OfLine p.1) (enumerate_from 0 (edge_lines lines)) (enumerate_from-each 0 (edge_lines lines) (edge_lines-each lines each)))
+
+  unknown_lines-each : (graph : RawGraph) (lines : List Line) → All OfLine lines → All OfLine (unknown_lines graph lines)
+  unknown_lines-each graph lines each =
+      All-filter (λ (l : Line). has_unknown graph.labels.names graph.labels.edges (listed l)) OfLine (run_lines lines)
+      (All-filter (λ (l : Line). are_run_fields l.fields) OfLine lines each)
 
   lines_naming-each : (graph : RawGraph) (lines : List Line) (vs : List ℕ) → All OfLine lines → All OfLine (lines_naming graph lines vs)
   lines_naming-each graph lines [] each = All-nil OfLine
@@ -94,9 +103,9 @@ module _ (P : ℕ → Type 0) where
 
   refusal_of-each : (mode : Mode) (lines : List Line) (graph : RawGraph) → All OfLine lines → IfSome (refusal_of mode lines graph) OfRefusal
   refusal_of-each mode lines graph each =
-      or_else-some _ _ (earliest-refused Later (run_lines lines) (All-filter (λ (l : Line). are_run_fields l.fields) OfLine lines each))
-      (or_else-some _ _ (earliest-All OfRefusal (line_refusals mode lines) (line_refusals-each mode lines each))
+      or_else-some _ _ (earliest-All OfRefusal (line_refusals mode lines) (line_refusals-each mode lines each))
       (or_else-some _ _ (earliest-refused Cycle (cycle_lines graph lines) (lines_where-each (closes_cycle graph.net) lines each))
+      (or_else-some _ _ (earliest-refused UnknownEdge (unknown_lines graph lines) (unknown_lines-each graph lines each))
       (earliest-refused Unconserved (unconserved_lines mode graph lines) (unconserved_lines-each mode graph lines each))))
 
   err_or-some : (refusal : Option Refusal) (graph : RawGraph) → IfSome refusal OfRefusal → IfErr (err_or refusal graph) OfRefusal

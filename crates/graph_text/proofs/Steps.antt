@@ -8,7 +8,7 @@ use Rattle.std.proofs.lemmas.List.Folds.{list_any-append}
 use Rattle.graph_text.specs.Lines.{without_return, is_blank, is_blank_line, is_hash_line, is_content_line, is_run_line, fields_of, are_no_fields, are_run_fields}
 use Rattle.graph_text.specs.Blocks.{complete, blocks, is_graph}
 use Rattle.graph_text.specs.Progress.{Progress, is_feed, left_by, triggers, with_line, after_byte, block_in, completed, last_block}
-use Rattle.graph_text.specs.Reading.{Line, line_at, numbered_lines, filled_lines, run_lines}
+use Rattle.graph_text.specs.Reading.{Line, line_at, numbered_lines, filled_lines}
 use Rattle.graph_text.specs.Draft.{is_content}
 use Rattle.graph_text.proofs.Growing.{has_hash, complete-grows}
 use Rattle.graph_text.proofs.OpenLine.{grow}
@@ -239,10 +239,6 @@ filter-some p (x ∷ xs) h =
     cond_both (p x) (x ∷ filter p xs) (filter p xs) (λ l. 0 < length l) (λ yes. omega arith)
     (λ other. filter-some p xs (ap (λ b. b || list_any p xs) (sym other) ∙ h))
 
-filter-none : {X : Type 0} (p : X → Bool) (xs : List X) → list_any p xs ≡ false → filter p xs ≡ []
-filter-none p [] h = refl
-filter-none p (x ∷ xs) h = let parts = or_parts (p x) (list_any p xs) h in cond-false (p x) _ _ parts.0 ∙ filter-none p xs parts.1
-
 not_and : (x y : Bool) → (not x || not y) ≡ not (x && y)
 not_and true y = refl
 not_and false y = refl
@@ -277,12 +273,6 @@ not_blank-graph lines h =
     false_from_ne_true (list_all is_blank_line lines) (λ blank. true≢false (sym h ∙ or_from _ _ (no_content lines blank) (no_runs lines blank)))
 
 -- the `#S` lines as they are read
-any_run-numbered : (n : ℕ) (lines : List (List ℕ)) → list_any (λ (l : Line). are_run_fields l.fields) (numbered_lines n lines) ≡ list_any is_run_line lines
+pub any_run-numbered : (n : ℕ) (lines : List (List ℕ)) → list_any (λ (l : Line). are_run_fields l.fields) (numbered_lines n lines) ≡ list_any is_run_line lines
 any_run-numbered n [] = refl
 any_run-numbered n (line ∷ lines) = ap (λ x. is_run_line line || x) (any_run-numbered (n + 1) lines)
-
-pub no_run_lines : (n : ℕ) (lines : List (List ℕ)) → list_any is_run_line lines ≡ false → run_lines (numbered_lines n lines) ≡ []
-no_run_lines n lines h = filter-none _ (numbered_lines n lines) (any_run-numbered n lines ∙ h)
-
-pub some_run_lines : (n : ℕ) (lines : List (List ℕ)) → list_any is_run_line lines ≡ true → 0 < length (run_lines (numbered_lines n lines))
-some_run_lines n lines h = filter-some _ (numbered_lines n lines) (any_run-numbered n lines ∙ h)

@@ -1,15 +1,9 @@
 -- What the graph in a draft stands for: the edge lines that it was given.
-use Rattle.std.specs.Prelude.{◌≡◌, ℕ, List, map, length, flat_map, Contains, All}
+use Rattle.std.specs.Prelude.{◌≡◌, ℕ, List, map, length, flat_map, All}
 use Rattle.decomposition.specs.declared.Mode.{Mode}
 use Rattle.graph_text.specs.declared.draft_graph.DraftGraph.{DraftGraph}
-use Rattle.graph_text.specs.Labels.{LabelLists}
-use Rattle.graph_text.specs.Reading.{Line, ends_of, distinct, vertex_of, edge_of, range_of}
-
--- some edge leads from the vertex of the first name to that of the second
-pub record HasEdge (labels : LabelLists) (tail head : List ℕ) : Type 0 where
-  pub tail_named : Contains labels.names tail
-  pub head_named : Contains labels.names head
-  pub joined : Contains labels.edges (vertex_of labels.names tail, vertex_of labels.names head)
+pub use Rattle.graph_text.specs.Joined.{HasEdge}
+use Rattle.graph_text.specs.Reading.{Line, ends_of, distinct, edge_of, range_of}
 
 -- the names that edge lines mention
 abbrev pub names_mentioned : List Line → List (List ℕ)

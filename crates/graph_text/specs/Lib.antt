@@ -4,7 +4,9 @@ pub mod Lines
 pub mod Blocks
 pub mod Progress
 pub mod Reading
+pub mod Joined
 pub mod LineFaults
+pub mod Constraints
 pub mod ShownLine
 pub mod FirstEdges
 pub mod DraftGraph

@@ -1,12 +1,12 @@
 -- What is wrong with a line, and the refusals of the lines of a block that stay whatever lines follow.
-use Rattle.std.specs.Prelude.{◌≡◌, ℕ, ◌+◌, ◌-◌, ◌<◌, ◌==◌, List, [], ◌++◌, length, take, drop, filter, Bool, not, ◌&&◌, nat_lt, if◌then◌else◌, Option, Some, None}
+use Rattle.std.specs.Prelude.{◌≡◌, ℕ, ◌+◌, ◌-◌, ◌<◌, ◌==◌, List, ◌++◌, length, take, drop, filter, Bool, true, false, not, ◌&&◌, ◌||◌, nat_lt, if◌then◌else◌, Option, Some, None}
 use Rattle.std.specs.List.{list_any, list_all}
 use Rattle.decomposition.specs.declared.Mode.{Mode}
 use Rattle.graph_text.specs.declared.refusal.Why.{Why}
-use Rattle.graph_text.specs.declared.refusal.Why.TheVariants.{LongLine, BadCount, BadFields, BadWeight, BadRange, RepeatedEdge, TooManyEdges}
+use Rattle.graph_text.specs.declared.refusal.Why.TheVariants.{LongLine, BadCount, BadFields, BadWeight, BadRange, RepeatedEdge, TooManyEdges, TooManyConstraints, ShortConstraint}
 use Rattle.graph_text.specs.declared.refusal.Refusal.{Refusal}
 use Rattle.graph_text.specs.Lines.{are_no_fields, are_hash_fields}
-use Rattle.graph_text.specs.Reading.{Line, most_bytes, most_edges, content_lines, run_lines, count_lines, edge_lines, long_lines, bad_fields, bad_weights, bad_ranges, repeats, is_count, is_weight, weights_of, range_in, same_fields, ends_of, refused, earliest}
+use Rattle.graph_text.specs.Reading.{Line, most_bytes, most_edges, most_constraints, content_lines, count_lines, edge_lines, long_lines, bad_fields, bad_weights, bad_ranges, repeats, listed, short_lines, constraint_lines, is_count, is_weight, weights_of, range_in, same_fields, ends_of, refused, earliest}
 
 -- whether a line is a content line
 abbrev pub is_content : Line → Bool
@@ -22,6 +22,8 @@ settled_refusals mode lines =
     ++ refused BadRange (bad_ranges mode lines)
     ++ refused RepeatedEdge (repeats (edge_lines lines))
     ++ refused TooManyEdges (take 1 (drop most_edges (edge_lines lines)))
+    ++ refused TooManyConstraints (take 1 (drop most_constraints (constraint_lines lines)))
+    ++ refused ShortConstraint (short_lines lines)
 
 -- the weights among the fields of an edge line
 abbrev pub weights_in : Mode → List (List ℕ) → List (List ℕ)
@@ -52,9 +54,22 @@ fault_of_edge mode edges line =
     if nat_lt most_bytes line.bytes then Some LongLine
     else or_fault (fault_of_fields mode line.fields) (fault_among edges line)
 
--- what is wrong with a `#` line
-abbrev pub fault_of_hash : Line → Option Why
-fault_of_hash line = if nat_lt most_bytes line.bytes then Some LongLine else None
+-- what is wrong with a `#` line that is no `#S` line
+abbrev pub fault_of_comment : Line → Option Why
+fault_of_comment line = if nat_lt most_bytes line.bytes then Some LongLine else None
+
+-- what is wrong with a list of vertices after other lists
+abbrev pub fault_of_list : List (List (List ℕ)) → List (List ℕ) → Option Why
+fault_of_list lists vertices =
+    if nat_lt (length vertices) 2 then Some ShortConstraint
+    else (if list_any (λ list. same_fields list vertices) lists then None
+    else (if length lists == most_constraints then Some TooManyConstraints else None))
+
+-- what is wrong with a `#S` line after lines that list these vertices
+abbrev pub fault_of_run : List (List (List ℕ)) → Line → Option Why
+fault_of_run lists line =
+    if nat_lt most_bytes line.bytes then Some LongLine
+    else fault_of_list lists (listed line)
 
 -- what is wrong with a count line
 abbrev pub fault_of_count : Line → Option Why
@@ -67,8 +82,18 @@ abbrev pub refusal_at : ℕ → Option Why → Option Refusal
 refusal_at number None = None
 refusal_at number (Some why) = Some (record { line = number; why = why })
 
+-- whether a refusal is of a line that is too long
+abbrev pub is_of_length : Why → Bool
+is_of_length LongLine = true
+is_of_length _ = false
+
+-- The refusal of a block without a content line, by the first one of a line for itself or for those before it, and by
+-- the number of the last line that is not blank.
+abbrev pub without_count : Option Refusal → ℕ → Refusal
+without_count None last = record { line = last; why = BadCount }
+without_count (Some r) last = if nat_lt r.line last || is_of_length r.why then r else record { line = last; why = BadCount }
+
 -- No line is refused for itself or for the lines before it, and there is a count line.
 pub record NoneRefused (mode : Mode) (lines : List Line) : Type 0 where
-  pub no_runs : run_lines lines ≡ []
   pub some : 0 < length (content_lines lines)
   pub settled : earliest (settled_refusals mode lines) ≡ None

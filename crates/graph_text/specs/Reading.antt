@@ -5,20 +5,23 @@ use Rattle.std.specs.Str.{bytes_eq}
 use Rattle.decomposition.specs.declared.Mode.{Mode}
 use Rattle.decomposition.specs.declared.Mode.TheVariants.{Exact, Interval, Abs}
 use Rattle.decomposition.specs.declared.Range.{Range}
-use Rattle.decomposition.specs.Graph.{Graph, graph_of, graph_before, tail, head, is_inner, below}
+use Rattle.decomposition.specs.Graph.{Graph, graph_of, graph_before, tail, head, is_inner, below, same_ends}
 use Rattle.decomposition.specs.Flow.{flow_into, flow_out_of}
 use Rattle.decomposition.specs.Instance.{Instance, range_at}
 use Rattle.decomposition.specs.Reach.{reaches}
 use Rattle.graph_text.specs.declared.refusal.Why.{Why}
-use Rattle.graph_text.specs.declared.refusal.Why.TheVariants.{Later, LongLine, BadCount, BadFields, BadWeight, BadRange, RepeatedEdge, TooManyEdges, Cycle, Unconserved}
+use Rattle.graph_text.specs.declared.refusal.Why.TheVariants.{LongLine, BadCount, BadFields, BadWeight, BadRange, RepeatedEdge, TooManyEdges, TooManyConstraints, ShortConstraint, Cycle, UnknownEdge, Unconserved}
 use Rattle.graph_text.specs.declared.refusal.Refusal.{Refusal}
 use Rattle.graph_text.specs.declared.block.RawGraph.{RawGraph}
 use Rattle.graph_text.specs.Lines.{fields_of, are_no_fields, are_hash_fields, are_run_fields}
 use Rattle.graph_text.specs.Blocks.{TextBlock}
 
--- the most edges of a block, the most bytes of a line, and the greatest weight
+-- the most edges and the most constraints of a block, the most bytes of a line, and the greatest weight
 abbrev pub most_edges : ℕ
 most_edges = 256
+
+abbrev pub most_constraints : ℕ
+most_constraints = 32
 
 abbrev pub most_bytes : ℕ
 most_bytes = 65536
@@ -55,6 +58,10 @@ count_lines lines = take 1 (content_lines lines)
 
 abbrev pub edge_lines : List Line → List Line
 edge_lines lines = drop 1 (content_lines lines)
+
+-- the vertices that a `#S` line lists
+abbrev pub listed : Line → List (List ℕ)
+listed line = drop 1 line.fields
 
 -- one or more digits, one or more zeros
 abbrev pub are_digits : List ℕ → Bool
@@ -149,6 +156,22 @@ abbrev pub repeats : List Line → List Line
 repeats [] = []
 repeats (line ∷ lines) = filter (λ l. same_fields (ends_of line) (ends_of l)) lines ++ repeats lines
 
+-- whether a `#S` line lists fewer than two vertices
+abbrev pub is_short : Line → Bool
+is_short line = nat_lt (length (listed line)) 2
+
+abbrev pub short_lines : List Line → List Line
+short_lines lines = filter is_short (run_lines lines)
+
+-- of the lines that list the same vertices the first
+abbrev pub first_listed : List Line → List Line
+first_listed [] = []
+first_listed (line ∷ lines) = line ∷ filter (λ l. not (same_fields (listed line) (listed l))) (first_listed lines)
+
+-- the constraints: the `#S` lines with two vertices or more, each list at its first line
+abbrev pub constraint_lines : List Line → List Line
+constraint_lines lines = first_listed (filter (λ l. not (is_short l)) (run_lines lines))
+
 -- what is refused line by line, each kind looked for over the whole block
 abbrev pub line_refusals : Mode → List Line → List Refusal
 line_refusals mode lines =
@@ -159,6 +182,8 @@ line_refusals mode lines =
     ++ refused BadRange (bad_ranges mode lines)
     ++ refused RepeatedEdge (repeats (edge_lines lines))
     ++ refused TooManyEdges (take 1 (drop most_edges (edge_lines lines)))
+    ++ refused TooManyConstraints (take 1 (drop most_constraints (constraint_lines lines)))
+    ++ refused ShortConstraint (short_lines lines)
 
 -- the refusal of the first line, and of several on that line the one that stands first
 abbrev pub earlier : Refusal → Option Refusal → Option Refusal
@@ -193,13 +218,27 @@ edge_of names line = pair_in (map (vertex_of names) (ends_of line))
 abbrev pub edges_of : List Line → List (ℕ × ℕ)
 edges_of lines = map (edge_of (names_of lines)) (edge_lines lines)
 
+-- the pairs of neighbours of a list
+abbrev pub neighbours : List ℕ → List (ℕ × ℕ)
+neighbours [] = []
+neighbours (u ∷ []) = []
+neighbours (u ∷ v ∷ vs) = (u, v) ∷ neighbours (v ∷ vs)
+
+-- the edges between neighbours of a list of vertices; the number of all edges stands where there is none
+abbrev pub run_of : List (List ℕ) → List (ℕ × ℕ) → List (List ℕ) → List ℕ
+run_of names edges vertices = map (λ p. position_or_len (same_ends p) edges) (neighbours (map (vertex_of names) vertices))
+
+-- whether two neighbours of a list of vertices are no edge
+abbrev pub has_unknown : List (List ℕ) → List (ℕ × ℕ) → List (List ℕ) → Bool
+has_unknown names edges vertices = list_any (λ e. e == length edges) (run_of names edges vertices)
+
 -- the graph of these lines
 abbrev pub raw_graph_of : Mode → List Line → RawGraph
 raw_graph_of mode lines = record {
   labels = record { names = names_of lines; edges = edges_of lines };
   net = graph_of (length (names_of lines)) (edges_of lines);
   ranges = map (range_of mode) (edge_lines lines);
-  runs = [];
+  runs = map (λ l. run_of (names_of lines) (edges_of lines) (listed l)) (constraint_lines lines);
 }
 
 -- the lines of the edges that pass a test
@@ -212,6 +251,10 @@ closes_cycle g e = reaches (graph_before g e) (head g e) (tail g e)
 
 abbrev pub cycle_lines : RawGraph → List Line → List Line
 cycle_lines graph lines = lines_where (closes_cycle graph.net) lines
+
+-- the `#S` lines with two neighbours that are no edge
+abbrev pub unknown_lines : RawGraph → List Line → List Line
+unknown_lines graph lines = filter (λ l. has_unknown graph.labels.names graph.labels.edges (listed l)) (run_lines lines)
 
 -- whether edges enter a vertex and leave it, and the sums of their weights differ
 abbrev pub is_unbalanced : RawGraph → ℕ → Bool
@@ -237,9 +280,9 @@ or_else (Some r) other = Some r
 -- the refusal of a block of these lines
 abbrev pub refusal_of : Mode → List Line → RawGraph → Option Refusal
 refusal_of mode lines graph =
-    or_else (earliest (refused Later (run_lines lines)))
-    (or_else (earliest (line_refusals mode lines))
+    or_else (earliest (line_refusals mode lines))
     (or_else (earliest (refused Cycle (cycle_lines graph lines)))
+    (or_else (earliest (refused UnknownEdge (unknown_lines graph lines)))
     (earliest (refused Unconserved (unconserved_lines mode graph lines)))))
 
 abbrev pub err_or : Option Refusal → RawGraph → Result RawGraph Refusal

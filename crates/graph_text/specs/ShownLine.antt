@@ -22,6 +22,16 @@ pub record IsHash (line : Line) : Type 0 where
   pub some : are_no_fields line.fields ≡ false
   pub hash : are_hash_fields line.fields ≡ true
 
+-- a `#` line that is no `#S` line
+pub record IsComment (line : Line) : Type 0 where
+  pub is_hash : IsHash line
+  pub no_run : are_run_fields line.fields ≡ false
+
+-- a `#S` line
+pub record IsRunLine (line : Line) : Type 0 where
+  pub is_hash : IsHash line
+  pub run : are_run_fields line.fields ≡ true
+
 -- a content line
 pub record IsContent (line : Line) : Type 0 where
   pub some : are_no_fields line.fields ≡ false

@@ -8,8 +8,8 @@ ghost use Rattle.graph_text.specs.Progress.{Progress, left_by, is_feed, after_by
 
 use crate::block::Block;
 use crate::draft::Draft;
-use crate::fields::{is_hash_text, is_run_text, name_in_text};
-use crate::open_line::{self, OpenLine};
+use crate::fields::{blanks_in_front, is_hash_text, is_run_text, name_in_text};
+use crate::open_line::OpenLine;
 use dag_net::Mode;
 use flow_io::Bytes;
 use std::alloc::{AllocError, Global};
@@ -93,7 +93,7 @@ impl Cutter {
         if !self.may_complete() {
             return None;
         }
-        let blanks = open_line::blanks_in_front(rest);
+        let blanks = blanks_in_front(rest);
         if blanks < rest.len() && rest[blanks] == b'#' {
             Some(&rest[..blanks + 1])
         } else {

@@ -1,12 +1,14 @@
 //! What is known of a block while its lines come.
-ghost use Rattle.std.specs.Prelude.{◌≡◌, ℕ, true, not, ◌||◌, ◌==◌, ◌<◌, List, [], ◌∷◌, ◌++◌, length, All, IfOk, IfSome, IfNone, OnOk, false};
+ghost use Rattle.std.specs.Prelude.{◌≡◌, ℕ, true, ◌||◌, ◌==◌, ◌<◌, List, [], ◌∷◌, ◌++◌, length, All, IfOk, IfSome, IfNone, OnOk, false};
 ghost use Rattle.std.specs.List.{list_any};
 ghost use Rattle.decomposition.specs.declared.Mode.{Mode as Model};
-ghost use Rattle.graph_text.specs.LineFaults.{NoneRefused, fault_of_count, refusal_at};
+ghost use Rattle.graph_text.specs.LineFaults.{NoneRefused, fault_of_count, refusal_at, without_count};
 ghost use Rattle.graph_text.specs.ShownLine.{ShowsLine};
-ghost use Rattle.graph_text.specs.Reading.{Line, filled_lines, run_lines, read_lines};
+ghost use Rattle.graph_text.specs.Lines.{fields_of, are_run_fields};
+ghost use Rattle.graph_text.specs.Reading.{Line, filled_lines, read_lines};
 
 use crate::block::RawGraph;
+use crate::constraints::Constraints;
 use crate::draft_graph::DraftGraph;
 use crate::fields::{fields, is_blank_text, is_count, is_hash_text, is_run_text};
 use crate::refusal::{Refusal, Why};
@@ -35,22 +37,36 @@ fn count_fault(alloc: Global, is_long: bool, text: &[u8]) -> Result<Option<Why>,
     Ok(is_bad.then_some(Why::BadCount))
 }
 
+/// The refusal of a block without a content line, by the first one of its lines and its last line that is not blank. On
+/// that line `BadCount` counts before all but `LongLine`.
+fn without_count(refusal: Option<Refusal>, last: u64) -> Refusal
+    ensures { result ≡ without_count refusal last }
+{
+    match refusal {
+        Some(refusal) if refusal.line < last || matches!(refusal.why, Why::LongLine) => refusal,
+        _ => Refusal {
+            line: last,
+            why: Why::BadCount,
+        },
+    }
+}
+
 /// The graph of a block as far as its lines have come, or the first refusal among them.
 #[derive(Drop)]
 pub struct Draft {
     mode: Mode,
-    /// The first constraint line.
-    later: Option<u64>,
     refusal: Option<Refusal>,
     /// The last line that is not blank.
     last_filled: Option<u64>,
     is_filled: bool,
+    has_run: bool,
+    constraints: Constraints,
     graph: DraftGraph,
 }
 
 impl Draft {
-    ghost use Rattle.graph_text.specs.Draft.{Drafts, is_content};
-    ghost use Rattle.graph_text.specs.ShownLine.{IsHash, IsContent};
+    ghost use Rattle.graph_text.specs.Draft.{Drafts, is_content, is_run};
+    ghost use Rattle.graph_text.specs.ShownLine.{IsComment, IsRunLine, IsContent};
 
     /// No line yet.
     pub fn new(alloc: Global, mode: Mode) -> Draft
@@ -58,10 +74,11 @@ impl Draft {
     {
         Draft {
             mode,
-            later: None,
             refusal: None,
             last_filled: None,
             is_filled: false,
+            has_run: false,
+            constraints: Constraints::new(alloc),
             graph: DraftGraph::new(alloc),
         }
     }
@@ -76,9 +93,9 @@ impl Draft {
     /// Whether the lines are a graph: a content line has come, or a `#S` line.
     pub fn is_graph(&self) -> bool
         ensures { (mode : Model) (lines : List Line) → Drafts mode lines self.now
-            → result ≡ (list_any is_content lines || not (length (run_lines lines) == 0)) }
+            → result ≡ (list_any is_content lines || list_any is_run lines) }
     {
-        self.is_filled || self.later.is_some()
+        self.is_filled || self.has_run
     }
 
     /// Takes the next line: its number, whether it is too long, and a text with its fields. After an `Err` the draft is of no use.
@@ -91,8 +108,11 @@ impl Draft {
         if is_blank_text(text) {
             return Ok(());
         }
+        if is_run_text(text) {
+            return self.add_run(number, is_long, text);
+        }
         if is_hash_text(text) {
-            self.add_hash(number, is_long, text);
+            self.add_comment(number, is_long);
             return Ok(());
         }
         if self.is_filled {
@@ -101,16 +121,32 @@ impl Draft {
         self.add_count(number, is_long, text)
     }
 
-    /// Takes a `#` line.
-    fn add_hash(&mut self, number: u64, is_long: bool, text: &[u8])
-        ensures { (mode : Model) (lines : List Line) (line : Line) → Drafts mode lines self.old
-            → All (λ l. l.number < number) lines → ShowsLine number is_long text.now line → IsHash line
+    /// Takes a `#` line that is no `#S` line.
+    fn add_comment(&mut self, number: u64, is_long: bool)
+        ensures { (mode : Model) (lines : List Line) (line : Line) (text : List ℕ) → Drafts mode lines self.old
+            → All (λ l. l.number < number) lines → ShowsLine number is_long text line → IsComment line
             → Drafts mode (lines ++ line ∷ []) self.new }
     {
         let fault = is_long.then_some(Why::LongLine);
         self.last_filled = Some(number);
-        self.later = self.later.or(is_run_text(text).then_some(number));
         self.refusal = self.refusal.or(refusal_at(number, fault));
+    }
+
+    /// Takes a `#S` line.
+    fn add_run(&mut self, number: u64, is_long: bool, text: &[u8]) -> Result<(), AllocError>
+        requires { are_run_fields (fields_of text.now) ≡ true }
+        ensures { OnOk result ((mode : Model) (lines : List Line) (line : Line) → Drafts mode lines self.old
+            → All (λ l. l.number < number) lines → ShowsLine number is_long text.now line → IsRunLine line
+            → Drafts mode (lines ++ line ∷ []) self.new) }
+    {
+        self.last_filled = Some(number);
+        self.has_run = true;
+        if self.refusal.is_some() {
+            return Ok(());
+        }
+        let fault = self.constraints.add_line(number, is_long, text)?;
+        self.refusal = refusal_at(number, fault);
+        Ok(())
     }
 
     /// Takes the first content line.
@@ -151,21 +187,11 @@ impl Draft {
         ensures none { (mode : Model) (lines : List Line) → Drafts mode lines self.now → 0 < length (filled_lines lines)
             → IfNone result (NoneRefused mode lines) }
     {
-        if let Some(line) = self.later {
-            return Some(Refusal {
-                line,
-                why: Why::Later,
-            });
-        }
         if self.is_filled {
             return self.refusal;
         }
-        let line = self.last_filled?;
-        let no_count = Refusal {
-            line,
-            why: Why::BadCount,
-        };
-        self.refusal.or(Some(no_count))
+        let last = self.last_filled?;
+        Some(without_count(self.refusal, last))
     }
 
     /// What the block is read as.
@@ -176,6 +202,6 @@ impl Draft {
         if let Some(refusal) = self.refusal_of_lines() {
             return Ok(Err(refusal));
         }
-        self.graph.into_body(alloc, self.mode)
+        self.graph.into_body(alloc, self.mode, &self.constraints)
     }
 }

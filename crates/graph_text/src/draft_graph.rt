@@ -9,15 +9,17 @@ ghost use Rattle.dag_net.specs.Build.{FollowsNet, ClosesCycle};
 ghost use Rattle.graph_text.specs.FirstEdges.{IsFirstAt, IsUnbalancedEdge};
 ghost use Rattle.graph_text.specs.Labels.{is_field};
 ghost use Rattle.graph_text.specs.LineFaults.{fault_among, fault_of_edge, NoneRefused};
-ghost use Rattle.graph_text.specs.Reading.{Line, most_weight, ends_of, edge_lines, range_of, read_lines};
+ghost use Rattle.graph_text.specs.Constraints.{listing_of};
+ghost use Rattle.graph_text.specs.Reading.{Line, most_weight, ends_of, constraint_lines, edge_lines, range_of, read_lines};
 ghost use Rattle.graph_text.specs.ShownLine.{ShowsLine};
 
 use crate::block::RawGraph;
+use crate::constraints::Constraints;
 use crate::edge_line::read_range;
 use crate::fields::fields;
 use crate::labels::Labels;
 use crate::refusal::{Refusal, Why};
-use dag_net::{BuildFault, IdLists, Mode, Net, Range, Ranges};
+use dag_net::{BuildFault, Mode, Net, Range, Ranges};
 use std::alloc::{AllocError, Global};
 
 /// The most edges of a block.
@@ -74,10 +76,7 @@ impl DraftGraph {
     fn has_edge(&self, tail: &[u8], head: &[u8]) -> bool
         ensures { IsTrue result ↔ HasEdge self.now.labels tail.now head.now }
     {
-        match (self.labels.vertex(tail), self.labels.vertex(head)) {
-            (Some(u), Some(v)) => self.labels.edge(u, v).is_some(),
-            _ => false,
-        }
+        self.labels.edge_between(tail, head).is_some()
     }
 
     /// Takes the edge of the line of this number, or says what is wrong with it.
@@ -192,18 +191,30 @@ impl DraftGraph {
         Refusal { line, why }
     }
 
-    /// What a block is read as that has this graph and no line that is refused for itself or the lines before it.
+    /// What a block is read as that has this graph, these constraints, and no line that is refused for itself or the lines
+    /// before it.
     pub fn into_body(
         self,
         alloc: Global,
         mode: Mode,
+        constraints: &Constraints,
     ) -> Result<Result<RawGraph, Refusal>, AllocError>
         ensures { IfOk result (λ body. (lines : List Line) → HoldsEdges mode (edge_lines lines) self
+            → constraints.now ≡ map listing_of (constraint_lines lines)
             → AllPairs (λ a b. a.number ≤ b.number) lines → NoneRefused mode lines → body ≡ read_lines mode lines) }
     {
         let net = match self.build_net(alloc)? {
             Ok(net) => net,
             Err(edge) => return Ok(Err(self.refusal(edge, Why::Cycle))),
+        };
+        let runs = match constraints.runs(alloc, &self.labels)? {
+            Ok(runs) => runs,
+            Err(line) => {
+                return Ok(Err(Refusal {
+                    line,
+                    why: Why::UnknownEdge,
+                }))
+            }
         };
         if let Some(edge) = self.unbalanced_edge(alloc, mode, &net)? {
             return Ok(Err(self.refusal(edge, Why::Unconserved)));
@@ -212,7 +223,7 @@ impl DraftGraph {
             labels: self.labels,
             net,
             ranges: self.ranges,
-            runs: IdLists::new(alloc),
+            runs,
         }))
     }
 }

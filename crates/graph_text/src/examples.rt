@@ -5,8 +5,8 @@ ghost use Rattle.decomposition.specs.declared.Mode.TheVariants.{Exact, Interval}
 ghost use Rattle.graph_text.specs.Lines.{lines_of, fields_of};
 ghost use Rattle.graph_text.specs.Blocks.{blocks, complete, name_of};
 ghost use Rattle.graph_text.specs.Progress.{left_by};
-ghost use Rattle.graph_text.specs.declared.refusal.Why.TheVariants.{Later, LongLine, BadCount, BadFields, BadWeight, BadRange, RepeatedEdge, TooManyEdges, Cycle, Unconserved};
-ghost use Rattle.graph_text.specs.Examples.{reads, edge_lines};
+ghost use Rattle.graph_text.specs.declared.refusal.Why.TheVariants.{LongLine, BadCount, BadFields, BadWeight, BadRange, RepeatedEdge, TooManyEdges, TooManyConstraints, ShortConstraint, Cycle, UnknownEdge, Unconserved};
+ghost use Rattle.graph_text.specs.Examples.{reads, edge_lines, run_lines};
 
 /// Lines end with a line feed or with the text, and a `#` line after a content line begins a block.
 pub fn texts_are_cut()
@@ -50,13 +50,43 @@ pub fn blocks_are_read()
     ensures word { reads Exact (codes "# x\ntwo\n") ≡ Err (record { line = 2; why = BadCount }) ∷ [] }
     ensures fields { reads Exact (codes "# x\n2\ns t 5 6\n") ≡ Err (record { line = 3; why = BadFields }) ∷ [] }
     ensures range { reads Interval (codes "# x\n2\ns t 5 4\n") ≡ Err (record { line = 3; why = BadRange }) ∷ [] }
+    ensures bounds { reads Interval (codes "# x\n2\ns t 4 5\n")
+        ≡ Ok (record {
+          labels = record { names = codes "s" ∷ codes "t" ∷ []; edges = (0, 1) ∷ [] };
+          net = graph_of 2 ((0, 1) ∷ []);
+          ranges = record { lo = 4; hi = 5 } ∷ [];
+          runs = [];
+        }) ∷ [] }
+    ensures one_weight { reads Interval (codes "# x\n2\ns t 5\n") ≡ Err (record { line = 3; why = BadFields }) ∷ [] }
     ensures repeated { reads Exact (codes "# x\n2\ns t 1\ns t 1\n") ≡ Err (record { line = 4; why = RepeatedEdge }) ∷ [] }
-    ensures later { reads Exact (codes "# x\n#S s t\n2\ns t 1\n") ≡ Err (record { line = 2; why = Later }) ∷ [] }
     ensures next { reads Exact (codes "# x\n2\ns t 1\n# y\n2\ns t 1.5\n") ≡ (reads Exact (codes "2\ns t 1\n") ++ Err (record { line = 6; why = BadWeight }) ∷ []) }
+{}
+
+/// Constraints are read as runs of the edges below them, or refused with a line.
+pub fn constraints_are_read()
+    ensures run { reads Exact (codes "# x\n#S s a #t\n#S a #t\n# y\n#S  s\ta #t \n3\ns a 1\na #t 1\n")
+        ≡ Ok (record {
+          labels = record { names = codes "s" ∷ codes "a" ∷ codes "#t" ∷ []; edges = (0, 1) ∷ (1, 2) ∷ [] };
+          net = graph_of 3 ((0, 1) ∷ (1, 2) ∷ []);
+          ranges = record { lo = 1; hi = 1 } ∷ record { lo = 1; hi = 1 } ∷ [];
+          runs = (0 ∷ 1 ∷ []) ∷ (1 ∷ []) ∷ [];
+        }) ∷ [] }
+    ensures no_run { reads Exact (codes "# x\n#Sub s t\n2\ns t 1\n") ≡ reads Exact (codes "# x\n2\ns t 1\n") }
+    ensures short { reads Exact (codes "# x\n#S s\n2\ns t 1\n") ≡ Err (record { line = 2; why = ShortConstraint }) ∷ [] }
+    ensures stranger { reads Exact (codes "# x\n#S s u\n2\ns t 1\n") ≡ Err (record { line = 2; why = UnknownEdge }) ∷ [] }
+    ensures backwards { reads Exact (codes "# x\n#S s t\n#S t s\n2\ns t 1\n") ≡ Err (record { line = 3; why = UnknownEdge }) ∷ [] }
+    ensures cycle_first { reads Exact (codes "# x\n#S s t\n2\na b 1\nb a 1\n") ≡ Err (record { line = 5; why = Cycle }) ∷ [] }
+    ensures unknown_first { reads Exact (codes "# x\n#S s t\n3\ns a 1\na t 2\n") ≡ Err (record { line = 2; why = UnknownEdge }) ∷ [] }
+    ensures no_count { reads Exact (codes "# x\n#S a b\n") ≡ Err (record { line = 2; why = BadCount }) ∷ [] }
+    ensures short_no_count { reads Exact (codes "# x\n#S a\n") ≡ Err (record { line = 2; why = BadCount }) ∷ [] }
+    ensures short_first { reads Exact (codes "# x\n#S a\n# y\n") ≡ Err (record { line = 2; why = ShortConstraint }) ∷ [] }
+    ensures word { reads Exact (codes "# x\n#S s t\ntwo\n") ≡ Err (record { line = 3; why = BadCount }) ∷ [] }
 {}
 
 /// The refusals past the limits.
 pub fn limits_are_kept()
     ensures edges { reads Exact (codes "# x\n0\n" ++ edge_lines 257) ≡ Err (record { line = 259; why = TooManyEdges }) ∷ [] }
+    ensures constraints { reads Exact (codes "# x\n" ++ run_lines 33 ++ codes "2\ns t 1\n") ≡ Err (record { line = 34; why = TooManyConstraints }) ∷ [] }
+    ensures again { reads Exact (codes "# x\n" ++ run_lines 32 ++ codes "#S s v1\n0\n" ++ edge_lines 32) ≡ reads Exact (codes "# x\n" ++ run_lines 32 ++ codes "0\n" ++ edge_lines 32) }
     ensures long { reads Exact (codes "# x\n2\ns" ++ replicate 65533 32 ++ codes "t 1\n") ≡ Err (record { line = 3; why = LongLine }) ∷ [] }
 {}

@@ -1,6 +1,7 @@
 //! The fields of a line, and what a line shows by its first bytes.
 ghost use Rattle.std.specs.Prelude.{◌≡◌, ◌<◌, ◌&&◌, List, ℕ, true, false, length, drop, map, nat_le, if◌then◌else◌, Some, None, IfOk};
 ghost use Rattle.std.specs.Borrow.{Bor};
+ghost use Rattle.std.specs.List.{take_while};
 ghost use Rattle.graph_text.specs.Lines.{is_blank, fields_of, are_no_fields, are_hash_fields, are_run_fields};
 ghost use Rattle.graph_text.specs.Blocks.{after_blanks, trimmed};
 ghost use Rattle.graph_text.specs.Reading.{are_digits, are_zeros, number_of, weight_in, is_count, most_weight};
@@ -26,12 +27,18 @@ pub(crate) fn fields(alloc: Global, text: &[u8]) -> Result<Vec<&[u8]>, AllocErro
         .collect(alloc)
 }
 
+/// How many blanks a text begins with.
+pub(crate) fn blanks_in_front(text: &[u8]) -> usize
+    ensures { result ≡ length (take_while is_blank text.now) }
+{
+    text.iter().take_while(|byte| is_blank(**byte)).count()
+}
+
 /// A text from its first byte on that is no blank.
-fn after_blanks(text: &[u8]) -> &[u8]
+pub(crate) fn after_blanks(text: &[u8]) -> &[u8]
     ensures { result.now ≡ after_blanks text.now }
 {
-    let blanks = text.iter().take_while(|byte| is_blank(**byte)).count();
-    &text[blanks..]
+    &text[blanks_in_front(text)..]
 }
 
 /// Whether a text has no field.

@@ -24,10 +24,11 @@ impl Model for Labels {
 }
 
 impl Labels {
-    ghost use Rattle.std.specs.Prelude.{◌≡◌, ◌+◌, ◌^◌, ◌<◌, ◌++◌, ◌∷◌, [], true, false, length, position, Contains, IsTrue, IfOk, OnErr, MatchOption, MatchBool};
+    ghost use Rattle.std.specs.Prelude.{◌≡◌, ◌+◌, ◌^◌, ◌<◌, ◌++◌, ◌∷◌, [], ◌↔◌, true, false, length, position, is_some, Contains, IsTrue, IfOk, OnErr, MatchOption, MatchBool};
     ghost use Rattle.std.specs.Str.{bytes_eq};
     ghost use Rattle.decomposition.specs.Graph.{same_ends};
     ghost use Rattle.graph_text.specs.Labels.{empty_labels, name_at, tail_at, head_at, is_field, with_name, AreLabels};
+    ghost use Rattle.graph_text.specs.Joined.{HasEdge};
     ghost use Rattle.graph_text.specs.Reading.{vertex_of};
 
     /// No name and no edge. Takes no memory.
@@ -63,6 +64,7 @@ impl Labels {
         ensures place { result ≡ position (bytes_eq name.now) self.now.names }
         ensures found { MatchOption result (¬ Contains self.now.names name.now)
             (λ v. (v < length self.now.names) × (name_at self.now v ≡ name.now)) }
+        ensures labels { AreLabels self.now }
     {
         let v = self.names.get_index_of(name)?;
         Some(v as u32)
@@ -85,6 +87,16 @@ impl Labels {
     {
         let e = self.edges.get_index_of(&(u, v))?;
         Some(e as u32)
+    }
+
+    /// The edge from the vertex of the first name to that of the second.
+    pub(crate) fn edge_between(&self, tail: &[u8], head: &[u8]) -> Option<u32>
+        ensures place { result ≡ position (same_ends (vertex_of self.now.names tail.now, vertex_of self.now.names head.now)) self.now.edges }
+        ensures joined { IsTrue (is_some result) ↔ HasEdge self.now tail.now head.now }
+    {
+        let u = self.vertex(tail)?;
+        let v = self.vertex(head)?;
+        self.edge(u, v)
     }
 
     /// The vertex that an edge leaves.

@@ -1,12 +1,13 @@
 //! The line in progress.
 ghost use Rattle.std.specs.Prelude.{◌≡◌, ℕ, ◌+◌, ◌==◌, ◌≤◌, List, length, false, OnOk, if◌then◌else◌};
-ghost use Rattle.std.specs.List.{list_all, list_any, take_while};
+ghost use Rattle.std.specs.List.{list_all, list_any};
 ghost use Rattle.graph_text.specs.Blocks.{after_blanks};
 ghost use Rattle.graph_text.specs.Progress.{is_feed};
 ghost use Rattle.graph_text.specs.Lines.{is_blank, is_blank_line, without_return};
 ghost use Rattle.graph_text.specs.Reading.{line_at};
 ghost use Rattle.graph_text.specs.ShownLine.{ShowsLine};
 
+use crate::fields::after_blanks;
 use std::alloc::{AllocError, Global};
 
 /// The most bytes that a line may have.
@@ -14,25 +15,6 @@ const MOST_BYTES: usize = 65_536;
 
 /// The most bytes of a line that are kept: with those of a line that has the most, and its carriage return, one more.
 const MOST_KEPT: usize = 65_538;
-
-/// How many blanks the bytes begin with.
-pub fn blanks_in_front(bytes: &[u8]) -> usize
-    ensures { result ≡ length (take_while is_blank bytes.now) }
-{
-    for (i, b) in bytes.iter().enumerate() {
-        if *b != b' ' && *b != b'\t' {
-            return i;
-        }
-    }
-    bytes.len()
-}
-
-/// The bytes from the first one on that is no blank.
-fn after_blanks(bytes: &[u8]) -> &[u8]
-    ensures { result.now ≡ after_blanks bytes.now }
-{
-    &bytes[blanks_in_front(bytes)..]
-}
 
 /// The bytes without the one carriage return at their end, if they have one.
 fn without_return(bytes: &[u8]) -> &[u8]

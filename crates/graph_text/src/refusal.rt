@@ -3,8 +3,6 @@
 /// What is wrong with a block, in the order in which the causes count on one line.
 #[derive(Clone, Copy, Debug, PartialEq, Eq)]
 pub enum Why {
-    /// A constraint line, which is not read yet.
-    Later,
     /// A line that is not blank has more than 65,536 bytes.
     LongLine,
     /// The count line is no number, or there is none.
@@ -19,8 +17,14 @@ pub enum Why {
     RepeatedEdge,
     /// There are more than 256 edges.
     TooManyEdges,
+    /// There are more than 32 distinct constraints.
+    TooManyConstraints,
+    /// A constraint lists fewer than two vertices.
+    ShortConstraint,
     /// An edge closes a cycle with the edges before it.
     Cycle,
+    /// Two neighbours in a constraint are joined by no edge.
+    UnknownEdge,
     /// An inner vertex receives another weight than it sends on.
     Unconserved,
 }

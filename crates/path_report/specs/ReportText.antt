@@ -10,7 +10,7 @@ use Rattle.decomposition.specs.declared.Token.TheVariants.{Gap, Miss, Split, Ste
 use Rattle.decomposition.specs.Graph.{is_run, is_list_before}
 use Rattle.decomposition.specs.Answer.{comes_before, is_ordered}
 use Rattle.graph_text.specs.declared.refusal.Why.{Why}
-use Rattle.graph_text.specs.declared.refusal.Why.TheVariants.{Later, LongLine, BadCount, BadFields, BadWeight, BadRange, RepeatedEdge, TooManyEdges, Cycle, Unconserved}
+use Rattle.graph_text.specs.declared.refusal.Why.TheVariants.{LongLine, BadCount, BadFields, BadWeight, BadRange, RepeatedEdge, TooManyEdges, TooManyConstraints, ShortConstraint, Cycle, UnknownEdge, Unconserved}
 use Rattle.graph_text.specs.Lines.{is_blank}
 use Rattle.graph_text.specs.Labels.{LabelLists, name_at, tail_at, head_at}
 use Rattle.path_report.specs.declared.report.Mark.{Mark}
@@ -43,7 +43,6 @@ model_line Interval = line (codes "model" ∷ codes "interval" ∷ [])
 model_line (Abs k) = line (codes "model" ∷ codes "abs" ∷ decimal k ∷ [])
 
 abbrev pub why_word : Why → List ℕ
-why_word Later = codes "Later"
 why_word LongLine = codes "LongLine"
 why_word BadCount = codes "BadCount"
 why_word BadFields = codes "BadFields"
@@ -51,7 +50,10 @@ why_word BadWeight = codes "BadWeight"
 why_word BadRange = codes "BadRange"
 why_word RepeatedEdge = codes "RepeatedEdge"
 why_word TooManyEdges = codes "TooManyEdges"
+why_word TooManyConstraints = codes "TooManyConstraints"
+why_word ShortConstraint = codes "ShortConstraint"
 why_word Cycle = codes "Cycle"
+why_word UnknownEdge = codes "UnknownEdge"
 why_word Unconserved = codes "Unconserved"
 
 abbrev pub mark_word : Mark → List ℕ

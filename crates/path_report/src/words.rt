@@ -32,7 +32,6 @@ pub fn name_of(why: Why) -> &'static [u8]
     ensures { result.now ≡ why_word why }
 {
     match why {
-        Why::Later => b"Later",
         Why::LongLine => b"LongLine",
         Why::BadCount => b"BadCount",
         Why::BadFields => b"BadFields",
@@ -40,7 +39,10 @@ pub fn name_of(why: Why) -> &'static [u8]
         Why::BadRange => b"BadRange",
         Why::RepeatedEdge => b"RepeatedEdge",
         Why::TooManyEdges => b"TooManyEdges",
+        Why::TooManyConstraints => b"TooManyConstraints",
+        Why::ShortConstraint => b"ShortConstraint",
         Why::Cycle => b"Cycle",
+        Why::UnknownEdge => b"UnknownEdge",
         Why::Unconserved => b"Unconserved",
     }
 }

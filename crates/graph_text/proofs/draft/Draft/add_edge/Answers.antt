@@ -3,7 +3,7 @@ use Rattle.std.specs.List.{All}
 use Rattle.graph_text.specs.DraftGraph.{HoldsEdges}
 use Rattle.graph_text.specs.LineFaults.{refusal_at, fault_of_edge}
 use Rattle.graph_text.specs.Reading.{Line, edge_lines, or_else}
-use Rattle.graph_text.proofs.Drafting.{stands_still, is_none, filled-content, later-content, some-content, Drafts-more}
+use Rattle.graph_text.proofs.Drafting.{stands_still, is_none, filled-content, run-content, constraints-content, some-content, Drafts-more}
 use Rattle.graph_text.proofs.LineByLine.{edge-more}
 use Rattle.graph_text.proofs.SettledRefusals.{settled-edge}
 use Rattle.graph_text.proofs.draft.Draft.add_edge.Goals as goal
@@ -18,8 +18,9 @@ returns-then-is_some c = λ mode lines line drafts below shows content.
     refl
     (c.requires.later ∙ sym (filled-content lines line content))
     (ap Some (sym shows.number_is))
-    (later-content lines line old.later content drafts.later)
+    (drafts.run ∙ sym (run-content lines line content))
     stands.0
+    (λ none faultless. absurd (stands.1 none))
     (λ none faultless. absurd (stands.1 none))
 
 pub returns : goal.returns
@@ -35,8 +36,9 @@ returns c = λ mode lines line drafts below shows content.
     refl
     (c.requires.later ∙ sym (filled-content lines line content))
     (ap Some (sym shows.number_is))
-    (later-content lines line old.later content drafts.later)
+    (drafts.run ∙ sym (run-content lines line content))
     (c.refusal_at-self.ensures ∙ (λ i. refusal_at (sym shows.number_is i) (fault i)) ∙ ap (λ r. or_else r (refusal_at line.number (fault_of_edge mode (edge_lines lines) line))) (sym none))
+    (λ none faultless. drafts.constraints_are none ∙ constraints-content lines line content)
     (λ none faultless.
     subst (λ (x : List Line). HoldsEdges mode x c.add_line.new.self) (sym more.1)
     (subst (λ m. HoldsEdges m (edge_lines lines ++ line ∷ []) c.add_line.new.self) drafts.mode_is

@@ -7,7 +7,8 @@ returns c = record {
   filled = refl;
   last = refl;
   rising = λ i j d less within. absurd (omega arith);
-  later = refl;
+  run = refl;
   refusal_is = refl;
-  graph_is = λ none. c.new.ensures c.args.mode;
+  constraints_are = λ none. c.new.ensures;
+  graph_is = λ none. c.new-2.ensures c.args.mode;
 }
