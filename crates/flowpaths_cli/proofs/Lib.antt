@@ -12,6 +12,6 @@ pub mod TokenPlaces
 pub mod Attempts
 pub mod Ended
 pub mod WordNumbers
+pub mod Parsed
 pub mod WordSettings
 pub mod SafeLists
-pub mod SecondNames

@@ -27,8 +27,8 @@ use Rattle.path_report.specs.declared.report.Mark.TheVariants.{Optimal, Infeasib
 use Rattle.path_report.specs.declared.report.Cert.{Cert}
 use Rattle.path_report.specs.declared.report.Cert.TheVariants.{Zero, Wide, Tree, Cut, Crowd}
 use Rattle.path_report.specs.declared.report.Trail.{Trail}
-use Rattle.path_report.specs.ReportText.{is_regular, text_of}
-use Rattle.flowpaths_cli.specs.Items.{most_nodes}
+use Rattle.path_report.specs.ReportText.{is_mode, is_regular, text_of}
+use Rattle.flowpaths_cli.specs.Numbers.{most_nodes}
 use Rattle.flowpaths_cli.specs.declared.settings.Settings.{Settings}
 
 -- a lower bound that is shown by as many edges with a lower bound of at least 1, of which no two lie on one path: it is the width
@@ -98,11 +98,14 @@ pub record SolvedRight (set : Settings) (i : Instance) (s : Solved) : Type 0 whe
   pub bound : IsLowerBound set.mode i lower
   pub optimal : s.mark ≡ Optimal → IsOptimal set.mode i s.paths
 
--- the settings that are built: the exact model, and a number of tokens in its range
+-- The settings that are built: numbers in their ranges, safe runs in the exact model alone, and as yet that model alone and no generated text.
 pub record AreBuilt (s : Settings) : Type 0 where
-  pub exact : s.mode ≡ Exact
   pub least : 1 ≤ s.nodes
   pub most : s.nodes ≤ most_nodes
+  pub mode : IsTrue (is_mode s.mode)
+  pub safe : s.safe ≡ true → s.mode ≡ Exact
+  pub exact : s.mode ≡ Exact
+  pub no_demo : s.demo ≡ None
 
 -- a body is right for what its block is read as: the same refusal, or a right solved report
 abbrev pub BodyRight : Settings → Result RawGraph Refusal → Body → Type 0

@@ -2,11 +2,12 @@
 #![tactic(auto)]
 
 mod call;
+mod command;
 mod examples;
-mod options;
+mod given;
+mod numbers;
 mod reading;
 mod reporting;
-mod said;
 mod searching;
 mod settings;
 mod solving;
