@@ -13,5 +13,6 @@ pub mod Attempts
 pub mod Ended
 pub mod WordNumbers
 pub mod Parsed
+pub mod OnWords
 pub mod WordSettings
 pub mod SafeLists

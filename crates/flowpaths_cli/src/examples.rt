@@ -4,7 +4,7 @@ ghost use Rattle.flowpaths_cli.specs.Words.{settings_of};
 ghost use Rattle.flowpaths_cli.specs.Examples.{naming, naming_safely};
 
 /// Words that are taken, and the settings that they give.
-#[tactic(auto, unfolding(clap::proofs::OnLiterals::clap_on_literals, crate::specs::Words::faults_of, crate::specs::Words::values_of, crate::specs::Words::settings_of))]
+#[tactic(auto, unfolding(crate::proofs::OnWords::words_on_literals))]
 pub fn words_are_taken()
     ensures none { settings_of [] ≡ naming 20000 (codes "-") }
     ensures file { settings_of (codes "x" ∷ []) ≡ naming 20000 (codes "x") }
@@ -22,7 +22,7 @@ pub fn words_are_taken()
 {}
 
 /// Words that are refused.
-#[tactic(auto, unfolding(clap::proofs::OnLiterals::clap_on_literals, crate::specs::Words::faults_of, crate::specs::Words::values_of, crate::specs::Words::settings_of))]
+#[tactic(auto, unfolding(crate::proofs::OnWords::words_on_literals))]
 pub fn words_are_refused()
     ensures two_files { IsNone (settings_of (codes "x" ∷ codes "--" ∷ codes "y" ∷ [])) }
     ensures two_numbers { IsNone (settings_of (codes "--nodes" ∷ codes "7" ∷ codes "--nodes=7" ∷ [])) }

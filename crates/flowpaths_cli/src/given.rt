@@ -1,5 +1,5 @@
 //! What the words give to the arguments of the command, and what of it is refused.
-ghost use Rattle.std.specs.Prelude.{◌≡◌, ◌≢◌, ◌||◌, [], IfOk, option_and_then, option_copied};
+ghost use Rattle.std.specs.Prelude.{◌≡◌, ◌≢◌, ◌||◌, [], IfOk, OnOk, option_and_then, option_copied};
 ghost use Rattle.flowpaths_cli.specs.Numbers.{number_in};
 ghost use Rattle.flowpaths_cli.specs.Values.{values_in, asks_model, is_bad_number, names_file, has_bad_model, has_bad_paths, has_bad_nodes, has_bad_seed, has_stray_paths, lacks_paths, has_stray_safe, has_stray_seed, is_unbuilt, is_refused, mode_by, settings_by};
 ghost use Rattle.flowpaths_cli.specs.Words.{texts, faults_of, values_of};
@@ -27,7 +27,7 @@ pub struct Given<'a> {
 impl<'a> Given<'a> {
     /// What words give that the command takes.
     pub fn by(alloc: Global, words: &'a [String]) -> Result<Given<'a>, WordFault>
-        ensures taken { IfOk result (λ given. faults_of (texts words.entry.now) ≡ []) }
+        ensures taken { OnOk result (faults_of (texts words.entry.now) ≡ []) }
         ensures values { IfOk result (λ given. values_in given ≡ values_of (texts words.entry.now)) }
         ensures words { result ≡ Err WordFault.Words → faults_of (texts words.entry.now) ≢ [] }
     {
