@@ -6,7 +6,7 @@ use flowpaths_cli::{Settings, WordFault};
 use std::test::Fail;
 
 /// Words that are taken, the most tokens of a search that they give, whether safe runs are listed, and the name of the input.
-const TAKEN: [(&[&str], u32, bool, &str); 24] = [
+const TAKEN: [(&[&str], u32, bool, &str); 30] = [
     (&[], 20_000, false, "-"),
     (&["x.graph"], 20_000, false, "x.graph"),
     (&["-"], 20_000, false, "-"),
@@ -31,10 +31,16 @@ const TAKEN: [(&[&str], u32, bool, &str); 24] = [
     (&["--safe"], 20_000, true, "-"),
     (&["x", "--safe", "--nodes=7"], 7, true, "x"),
     (&["--safe", "--", "--safe"], 20_000, true, "--safe"),
+    (&["--nodes", "7", "x"], 7, false, "x"),
+    (&["--safe", "x"], 20_000, true, "x"),
+    (&["--model", "exact"], 20_000, false, "-"),
+    (&["--model=exact", "x"], 20_000, false, "x"),
+    (&["x", "--model", "exact", "--safe"], 20_000, true, "x"),
+    (&["--", "--model=abs"], 20_000, false, "--model=abs"),
 ];
 
 /// Words that are refused.
-const REFUSED: [&[&str]; 33] = [
+const REFUSED: [&[&str]; 58] = [
     &["--nodes"],
     &["x", "--nodes"],
     &["--nodes="],
@@ -58,16 +64,41 @@ const REFUSED: [&[&str]; 33] = [
     &["-", "-"],
     &["--safe", "--safe"],
     &["--safe=1"],
-    &["--model", "exact"],
-    &["--model=exact"],
+    &["--safe="],
+    &["--model"],
+    &["--model="],
+    &["--model", "flow"],
+    &["--model", "Exact"],
+    &["--model=exact", "--model=exact"],
+    &["--model", "interval"],
+    &["--model", "interval", "--safe"],
+    &["--model", "abs"],
+    &["--model", "abs", "--paths", "65"],
+    &["--model", "abs", "--paths", "2"],
+    &["--model", "abs", "--paths", "2", "--safe"],
+    &["--paths", "2"],
     &["--paths=2"],
+    &["--model=exact", "--paths=2"],
+    &["--model=interval", "--paths=2"],
+    &["--demo"],
     &["--demo", "1"],
+    &["--demo", "2147483648"],
+    &["--demo", "1", "x.graph"],
+    &["--demo", "1", "--safe"],
+    &["--demo", "1", "--model", "interval"],
+    &["--colour"],
     &["--help"],
     &["-h"],
+    &["--version"],
+    &["-V"],
     &["--nodesx=7"],
+    &["--node=7"],
     &["-=7"],
     &["--=x"],
     &["-x"],
+    &["-7"],
+    &["---"],
+    &["-safe"],
 ];
 
 #[test]

@@ -16,6 +16,7 @@ pub mod Raising
 pub mod Halving
 pub mod LeastError
 pub mod WordNumbers
+pub mod Parsed
+pub mod OnWords
 pub mod WordSettings
 pub mod SafeLists
-pub mod SecondNames

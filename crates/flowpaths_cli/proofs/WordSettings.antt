@@ -1,97 +1,94 @@
--- Settings that words give have a number of tokens in its range, since each item of the words that is one has.
-use Rattle.std.proofs.Common.{◌≡◌, ◌≤◌, ℕ, Bool, true, false, ◌&&◌, cond, List, [], ◌∷◌, Option, None, Some, Result, Ok, Err, lit≤, get_or, subst, map, refl}
-use Rattle.std.specs.Prelude.{codes, option_map, option_and_then, IfSome, IfOk, filter_map}
-use Rattle.std.specs.Option.{option_map_or}
+-- Settings that words give are built: what is not refused of the words' values is in its range.
+use Rattle.std.proofs.Common.{◌≡◌, ◌≤◌, ℕ, Bool, true, false, not, ◌&&◌, ◌||◌, cond, Option, None, Some, lit≤, sym, subst, refl, true≢false}
+use Rattle.std.specs.Prelude.{IsTrue, is_some, unwrap_or, option_and_then, codes}
+use Rattle.std.proofs.lemmas.Bool.{cond_both, leb-true, le-leb}
+use Rattle.std.proofs.lemmas.Slice.Eq.{bytes_eq-Decides}
 use Rattle.std.specs.Str.{bytes_eq}
-use Rattle.std.proofs.lemmas.Bool.{cond_both, leb-true}
+use Rattle.clap.specs.Words.{Text}
+use Rattle.decomposition.specs.declared.Mode.{Mode}
+use Rattle.decomposition.specs.declared.Mode.TheVariants.{Exact, Interval, Abs}
 use Rattle.graph_text.specs.Reading.{number_of}
-use Rattle.flowpaths_cli.specs.declared.options.Valued.{Valued}
-use Rattle.flowpaths_cli.specs.declared.options.Valued.TheVariants.{Nodes}
-use Rattle.flowpaths_cli.specs.declared.settings.Settings.{Settings}
-use Rattle.flowpaths_cli.specs.Items.{Item, most_nodes, option_of, valued_item, is_dashed, named_item, option_before, item_of, limit_of}
+use Rattle.path_report.specs.ReportText.{is_mode}
+use Rattle.flowpaths_cli.specs.Numbers.{number_in, most_nodes, most_paths, most_seed}
 use Rattle.flowpaths_cli.specs.Right.{AreBuilt}
-use Rattle.flowpaths_cli.specs.Words.{two_dashes, with_item, items_of, given, are_single, default_nodes, settings_at, settings_from, settings_of}
+use Rattle.flowpaths_cli.specs.Values.{Values, asks_model, has_bad_model, has_bad_paths, has_bad_nodes, has_bad_seed, has_stray_paths, lacks_paths, has_stray_safe, has_stray_seed, is_unbuilt, is_refused, mode_by, settings_by, default_nodes}
+use Rattle.flowpaths_cli.specs.declared.settings.Settings.{Settings}
 
--- a number of tokens in its range
-abbrev pub IsLimit : ℕ → Type 0
-IsLimit n = (1 ≤ n) × (n ≤ most_nodes)
+-- a number in a range
+abbrev IsWithin : ℕ → ℕ → ℕ → Type 0
+IsWithin least most n = (least ≤ n) × (n ≤ most)
 
--- an item that is in its range, if it is a number
-abbrev pub IsWithin : Item → Type 0
-IsWithin (Item.limit n) = IsLimit n
-IsWithin Item.safely = Unit {0}
-IsWithin (Item.input name) = Unit {0}
+tested : (a b c d : Bool) (least most n other : ℕ) → (c ≡ true → least ≤ n) → (d ≡ true → n ≤ most) → IsWithin least most other
+    → IsWithin least most (unwrap_or (cond (a && (b && (c && d))) (Some n) None) other)
+tested false b c d least most n other low high default = default
+tested true false c d least most n other low high default = default
+tested true true false d least most n other low high default = default
+tested true true true false least most n other low high default = default
+tested true true true true least most n other low high default = (low refl, high refl)
 
--- each of these items is
-abbrev pub AreWithin : List Item → Type 0
-AreWithin [] = Unit {0}
-AreWithin (item ∷ items) = IsWithin item × AreWithin items
+-- the number that a text spells in a range, or the default
+number-within : (least most other : ℕ) (text : Option Text) → IsWithin least most other → IsWithin least most (unwrap_or (option_and_then (number_in least most) text) other)
+number-within least most other None default = default
+number-within least most other (Some t) default = tested _ _ _ _ least most (number_of t) other (leb-true _ _) (leb-true _ _) default
 
--- an option with its value
-tested : (a b c d : Bool) (n : ℕ) → (c ≡ true → 1 ≤ n) → (d ≡ true → n ≤ most_nodes) →
-    IfSome (option_map Item.limit (cond (a && (b && (c && d))) (Some n) None)) IsWithin
-tested false b c d n least most = tt
-tested true false c d n least most = tt
-tested true true false d n least most = tt
-tested true true true false n least most = tt
-tested true true true true n least most = (least refl, most refl)
+-- the number of paths of a model is in its range
+mode-within : (v : Values) → IsTrue (is_mode (mode_by v))
+mode-within v =
+    cond_both (asks_model (codes "abs") v) _ _ (λ mode. IsTrue (is_mode mode))
+    (λ _. le-leb _ most_paths (number-within 0 most_paths 0 v.paths (lit≤ tt, lit≤ tt)).1)
+    (λ _. cond_both (asks_model (codes "interval") v) Interval Exact (λ mode. IsTrue (is_mode mode)) (λ _. refl) (λ _. refl))
 
-valued-within : (option : Valued) (value : List ℕ) → IfSome (valued_item option value) IsWithin
-valued-within Nodes value = tested _ _ _ _ (number_of value) (leb-true _ _) (leb-true _ _)
+-- where a choice of tests fails, so is each of the two
+neither : (a b : Bool) → (a || b) ≡ false → (a ≡ false) × (b ≡ false)
+neither true b fails = absurd (true≢false fails)
+neither false b fails = (refl, fails)
 
--- a name
-named-within : (word : List ℕ) → IfSome (named_item word) IsWithin
-named-within word = cond_both (is_dashed word) None (Some (Item.input word)) (λ item. IfSome item IsWithin) (λ _. tt) (λ _. tt)
+-- where a test is not denied, it holds
+granted : (a : Bool) → not a ≡ false → a ≡ true
+granted true fails = refl
+granted false fails = absurd (true≢false fails)
 
--- what holds with each option and without one holds of a choice by an option
-either : {X : Type 0} (o : Option Valued) (f : Valued → X) (other : X) (P : X → Type 0) → ((option : Valued) → P (f option)) → P other → P (option_map_or f o other)
-either None f other P some none = none
-either (Some option) f other P some none = some option
+-- a test that is denied together with another one that holds
+together : (a b : Bool) → (a && not b) ≡ false → a ≡ true → b ≡ true
+together true b fails holds = granted b fails
+together false b fails holds = absurd (true≢false (sym holds))
 
--- a word by itself
-item-within : (word : List ℕ) → IfSome (item_of word) IsWithin
-item-within word =
-    cond_both (bytes_eq word (codes "--safe")) (Some Item.safely) _ (λ item. IfSome item IsWithin) (λ _. tt)
-    (λ _. either (option_before word) _ _ (λ item. IfSome item IsWithin) (λ option. valued-within option _) (named-within word))
+exact_named : (model : Text) (k : ℕ) → model ≡ codes "exact" → ◌≡◌ {A = Mode} (cond (bytes_eq model (codes "abs")) (Abs k) (cond (bytes_eq model (codes "interval")) Interval Exact)) Exact
+exact_named model k is = rw is refl
 
--- an item before others
-with_item-within : (item : Option Item) (items : Option (List Item)) → IfSome item IsWithin → IfSome items AreWithin → IfSome (with_item item items) AreWithin
-with_item-within None items one all = tt
-with_item-within (Some item) None one all = tt
-with_item-within (Some item) (Some items) one all = (one, all)
+-- where the model exact is asked for, it is the model
+exact-mode : (v : Values) → asks_model (codes "exact") v ≡ true → mode_by v ≡ Exact
+exact-mode v asks = exact_named (unwrap_or v.model (codes "exact")) _ ((bytes_eq-Decides _ _).0 asks)
 
--- names behind `--`
-inputs-within : (words : List (List ℕ)) → AreWithin (map Item.input words)
-inputs-within [] = tt
-inputs-within (word ∷ words) = (tt, inputs-within words)
+no_seed : (demo : Option Text) → is_some demo ≡ false → option_and_then (number_in 0 most_seed) demo ≡ None
+no_seed None none = refl
+no_seed (Some text) none = absurd (true≢false none)
 
--- all words
-items-within : (words : List (List ℕ)) → IfSome (items_of words) AreWithin
-items-within [] = tt
-items-within (word ∷ []) =
-    cond_both (bytes_eq word two_dashes) _ _ (λ items. IfSome items AreWithin) (λ _. tt)
-    (λ _. either (option_of word) _ _ (λ items. IfSome items AreWithin) (λ option. tt) (with_item-within (item_of word) (Some []) (item-within word) tt))
-items-within (word ∷ next ∷ words) =
-    cond_both (bytes_eq word two_dashes) _ _ (λ items. IfSome items AreWithin) (λ _. inputs-within (next ∷ words))
-    (λ _. either (option_of word) _ _ (λ items. IfSome items AreWithin)
-    (λ option. with_item-within (valued_item option next) (items_of words) (valued-within option next) (items-within words))
-    (with_item-within (item_of word) (items_of (next ∷ words)) (item-within word) (items-within (next ∷ words))))
+-- the tests of safe runs and of what is not built, among those that are false
+last_tests : (v : Values) → is_refused v ≡ false → (has_stray_safe v ≡ false) × (is_unbuilt v ≡ false)
+last_tests v fails =
+    let model = neither (has_bad_model v) _ fails in
+    let paths = neither (has_bad_paths v) _ model.1 in
+    let nodes = neither (has_bad_nodes v) _ paths.1 in
+    let seed = neither (has_bad_seed v) _ nodes.1 in
+    let stray_paths = neither (has_stray_paths v) _ seed.1 in
+    let no_paths = neither (lacks_paths v) _ stray_paths.1 in
+    let safe = neither (has_stray_safe v) _ no_paths.1 in
+    let stray_seed = neither (has_stray_seed v) _ safe.1 in
+    (safe.0, (neither (is_unbuilt v) _ stray_seed.1).0)
 
--- the first number of tokens among items, or the default
-first-within : (items : List Item) → AreWithin items → IsLimit (get_or (filter_map limit_of items) 0 default_nodes)
-first-within [] all = (lit≤ tt, lit≤ tt)
-first-within (Item.limit n ∷ items) all = all.0
-first-within (Item.safely ∷ items) all = first-within items all.1
-first-within (Item.input name ∷ items) all = first-within items all.1
+-- settings by values that are not refused are built
+settings-built : (v : Values) → is_refused v ≡ false → AreBuilt (settings_by v)
+settings-built v fails =
+    let last = last_tests v fails in
+    let nodes = number-within 1 most_nodes default_nodes v.nodes (lit≤ tt, lit≤ tt) in
+    record {
+      least = nodes.0;
+      most = nodes.1;
+      mode = mode-within v;
+      safe = λ safe. exact-mode v (together _ _ last.0 safe);
+      no_demo = no_seed v.demo last.1;
+    }
 
-settings-within : (items : Option (List Item)) → IfSome items AreWithin → IfSome (option_and_then (λ is. settings_from (given is)) items) AreBuilt
-settings-within None all = tt
-settings-within (Some items) all =
-    let limit = first-within items all in
-    cond_both (are_single (given items)) (Some (settings_at (given items))) None
-    (λ o. IfSome o AreBuilt) (λ _. record { exact = refl; least = limit.0; most = limit.1 }) (λ _. tt)
-
--- the settings that words give, if a call answers them
-pub ok-built : {E : Type 0} (words : List (List ℕ)) (r : Result Settings E) → IfOk r (λ s. settings_of words ≡ Some s) → IfOk r AreBuilt
-ok-built words (Ok s) is = subst (λ o. IfSome o AreBuilt) is (settings-within (items_of words) (items-within words))
-ok-built words (Err e) is = tt
+pub are-built : (v : Values) (s : Settings) → is_refused v ≡ false → s ≡ settings_by v → AreBuilt s
+are-built v s fails is = subst AreBuilt (sym is) (settings-built v fails)

@@ -1,6 +1,8 @@
-pub mod Items
+pub mod Numbers
+pub mod Command
+pub mod Faults
+pub mod Values
 pub mod Words
-pub mod Said
 pub mod Examples
 pub mod Booking
 pub mod Right

@@ -30,7 +30,7 @@ use Rattle.path_report.specs.declared.report.Cert.TheVariants.{Zero, Wide, Tree,
 use Rattle.path_report.specs.declared.report.Trail.{Trail}
 use Rattle.path_report.specs.ReportText.{is_mode, is_regular, text_of}
 use Rattle.flowpaths_cli.specs.Booking.{IsAtMostFirst, IsKnownWhereBookedFit}
-use Rattle.flowpaths_cli.specs.Items.{most_nodes}
+use Rattle.flowpaths_cli.specs.Numbers.{most_nodes}
 use Rattle.flowpaths_cli.specs.declared.settings.Settings.{Settings}
 
 -- the models in which the number of paths is to be least
@@ -175,12 +175,13 @@ pub record SolvedRight (set : Settings) (i : Instance) (s : Solved) : Type 0 whe
   pub optimal : s.mark ≡ Optimal → IsOptimal set.mode i s.paths
   pub infeasible : s.mark ≡ Infeasible → IsInfeasible set.mode i
 
--- the settings that are built: a model, a number of tokens in its range, and safe runs of exact graphs alone
+-- The settings that are built: a model, numbers in their ranges, safe runs in the exact model alone, and as yet no generated text.
 pub record AreBuilt (s : Settings) : Type 0 where
-  pub mode : IsTrue (is_mode s.mode)
   pub least : 1 ≤ s.nodes
   pub most : s.nodes ≤ most_nodes
+  pub mode : IsTrue (is_mode s.mode)
   pub safe : s.safe ≡ true → s.mode ≡ Exact
+  pub no_demo : s.demo ≡ None
 
 -- a body is right for what its block is read as: the same refusal, or a right solved report
 abbrev pub BodyRight : Settings → Result RawGraph Refusal → Body → Type 0

@@ -33,9 +33,10 @@ pub fn flowpaths<I: Inputs, O: Output, E: Output>(
         WhereWritten (O.written out.old) (O.written out.new)
         (Writes s result (Rose (O.faults out.old) (O.faults out.new)) seen)))) }
 
-    // Refused words are the cause of `Words`, and then nothing was asked for, read or written.
-    ensures words { (result ≡ Status.Words) ↔ IsNone (settings_of (texts words.now)) }
-    ensures untouched { result ≡ Status.Words → (inputs.new ≡ inputs.old) × (out.new ≡ out.old) }
+    // Refused words are the cause of `Words`; where memory is wanting to read them, `Memory` comes in its place. Nothing is asked for, read or written then.
+    ensures words { result ≡ Status.Words → IsNone (settings_of (texts words.now)) }
+    ensures refused { IsNone (settings_of (texts words.now)) → (result ≡ Status.Words) ⊎ (result ≡ Status.Memory) }
+    ensures untouched { IsNone (settings_of (texts words.now)) → (inputs.new ≡ inputs.old) × (out.new ≡ out.old) }
 
     // A fault of the input or of the output is the cause of `Fault`.
     ensures fault { result ≡ Status.Fault → Rose (I.faults inputs.old) (I.faults inputs.new)
@@ -63,8 +64,9 @@ fn run<I: Inputs, O: Output>(alloc: Global, words: &[String], inputs: &mut I, ou
         (WhereSeen (I.holds inputs.old s.file) (I.selected inputs.new) (λ seen.
         WhereWritten (O.written out.old) (O.written out.new)
         (Writes s result (Rose (O.faults out.old) (O.faults out.new)) seen)))) }
-    ensures words { (result ≡ Status.Words) ↔ IsNone (settings_of (texts words.now)) }
-    ensures untouched { result ≡ Status.Words → (inputs.new ≡ inputs.old) × (out.new ≡ out.old) }
+    ensures words { result ≡ Status.Words → IsNone (settings_of (texts words.now)) }
+    ensures refused { IsNone (settings_of (texts words.now)) → (result ≡ Status.Words) ⊎ (result ≡ Status.Memory) }
+    ensures untouched { IsNone (settings_of (texts words.now)) → (inputs.new ≡ inputs.old) × (out.new ≡ out.old) }
     ensures fault { result ≡ Status.Fault → Rose (I.faults inputs.old) (I.faults inputs.new)
         ⊎ Rose (O.faults out.old) (O.faults out.new) }
     ensures holds { (any : List ℕ) → I.holds inputs.new any ≡ I.holds inputs.old any }

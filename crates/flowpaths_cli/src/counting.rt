@@ -5,7 +5,7 @@ ghost use Rattle.decomposition.specs.Certificates.{decision_at_all, decision_bel
 ghost use Rattle.decomposition.specs.Graph.{edge_count};
 ghost use Rattle.decomposition.specs.Instance.{IsInstance, greatest_hi};
 ghost use Rattle.flow_models.specs.Problem.{instance};
-ghost use Rattle.flowpaths_cli.specs.Items.{most_nodes};
+ghost use Rattle.flowpaths_cli.specs.Numbers.{most_nodes};
 ghost use Rattle.flowpaths_cli.specs.Searched.{AreFewPaths, FindsAs, IsKnown, count_of};
 
 use crate::crowds::{Crowd, find_crowd};

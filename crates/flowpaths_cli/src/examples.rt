@@ -4,6 +4,7 @@ ghost use Rattle.flowpaths_cli.specs.Words.{settings_of};
 ghost use Rattle.flowpaths_cli.specs.Examples.{naming, naming_safely};
 
 /// Words that are taken, and the settings that they give.
+#[tactic(auto, unfolding(crate::proofs::OnWords::words_on_literals))]
 pub fn words_are_taken()
     ensures none { settings_of [] ≡ naming 20000 (codes "-") }
     ensures file { settings_of (codes "x" ∷ []) ≡ naming 20000 (codes "x") }
@@ -16,10 +17,12 @@ pub fn words_are_taken()
     ensures behind { settings_of (codes "--nodes" ∷ codes "1" ∷ codes "--" ∷ codes "--nodes" ∷ []) ≡ naming 1 (codes "--nodes") }
     ensures safe { settings_of (codes "--safe" ∷ []) ≡ naming_safely 20000 (codes "-") }
     ensures both { settings_of (codes "x" ∷ codes "--safe" ∷ codes "--nodes=7" ∷ []) ≡ naming_safely 7 (codes "x") }
+    ensures exact { settings_of (codes "--model=exact" ∷ []) ≡ naming 20000 (codes "-") }
     ensures twice { settings_of (codes "--" ∷ codes "--" ∷ []) ≡ naming 20000 (codes "--") }
 {}
 
 /// Words that are refused.
+#[tactic(auto, unfolding(crate::proofs::OnWords::words_on_literals))]
 pub fn words_are_refused()
     ensures two_files { IsNone (settings_of (codes "x" ∷ codes "--" ∷ codes "y" ∷ [])) }
     ensures two_numbers { IsNone (settings_of (codes "--nodes" ∷ codes "7" ∷ codes "--nodes=7" ∷ [])) }
@@ -32,6 +35,7 @@ pub fn words_are_refused()
     ensures zero { IsNone (settings_of (codes "--nodes" ∷ codes "0" ∷ [])) }
     ensures greater { IsNone (settings_of (codes "--nodes" ∷ codes "50001" ∷ [])) }
     ensures sign { IsNone (settings_of (codes "--nodes=+7" ∷ [])) }
-    ensures later { IsNone (settings_of (codes "--model" ∷ codes "exact" ∷ [])) }
+    ensures help { IsNone (settings_of (codes "--help" ∷ [])) }
+    ensures not_built { IsNone (settings_of (codes "--model" ∷ codes "interval" ∷ [])) }
     ensures other { IsNone (settings_of (codes "--nodesx=7" ∷ [])) }
 {}

@@ -5,7 +5,7 @@ ghost use Rattle.decomposition.specs.Instance.{Instance, IsInstance, error, grea
 ghost use Rattle.flow_models.specs.Problem.{instance};
 ghost use Rattle.path_report.specs.Laws.{IsFoundIn};
 ghost use Rattle.flowpaths_cli.specs.declared.settings.Settings.{Settings as Given};
-ghost use Rattle.flowpaths_cli.specs.Items.{most_nodes};
+ghost use Rattle.flowpaths_cli.specs.Numbers.{most_nodes};
 ghost use Rattle.flowpaths_cli.specs.Right.{AreBuilt, SolvedRight};
 ghost use Rattle.flowpaths_cli.specs.Searched.{AttemptsAs, IsFoundFor, IsNoWorseThanBooked, any_error};
 ghost use Rattle.flowpaths_cli.specs.Halved.{HalvesTo, IsHalvedFor, IsHalving, steps_left};

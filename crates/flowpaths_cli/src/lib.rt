@@ -3,18 +3,19 @@
 
 mod bounds;
 mod call;
+mod command;
 mod counted;
 mod counting;
 mod crowds;
 mod exact;
 mod examples;
+mod given;
 mod interval;
 mod least_error;
-mod options;
+mod numbers;
 mod reading;
 mod reporting;
 mod room;
-mod said;
 mod searching;
 mod settings;
 mod solving;

@@ -4,7 +4,7 @@ ghost use Rattle.decomposition.specs.declared.Mode.{Mode as AMode};
 ghost use Rattle.decomposition.specs.Instance.{IsInstance, greatest_hi};
 ghost use Rattle.flow_models.specs.Problem.{instance};
 ghost use Rattle.path_report.specs.Laws.{IsSmall};
-ghost use Rattle.flowpaths_cli.specs.Items.{most_nodes};
+ghost use Rattle.flowpaths_cli.specs.Numbers.{most_nodes};
 ghost use Rattle.flowpaths_cli.specs.Searched.{AttemptsAs};
 
 use branch_bound::{Outcome, Search};

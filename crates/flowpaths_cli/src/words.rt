@@ -1,12 +1,12 @@
 //! The words of the command line.
-ghost use Rattle.std.specs.Prelude.{◌≡◌, ◌↔◌, [], Some, IsNone, IfOk};
+ghost use Rattle.std.specs.Prelude.{◌≡◌, ◌⊎◌, Some, IsNone, IfOk};
 ghost use Rattle.flowpaths_cli.specs.Right.{AreBuilt};
+ghost use Rattle.flowpaths_cli.specs.Values.{values_in, settings_by};
 ghost use Rattle.flowpaths_cli.specs.Words.{texts, settings_of};
-ghost use Rattle.flowpaths_cli.specs.Said.{settings_after};
 
-use crate::said::{Next, Said};
+use crate::given::Given;
 use crate::settings::Settings;
-use dag_net::Mode;
+use clap::error::ErrorKind;
 use flow_io::Word;
 use std::alloc::{AllocError, Global};
 use thiserror::Error;
@@ -31,39 +31,51 @@ impl From<AllocError> for WordFault {
     }
 }
 
-/// The most tokens of a search, where the words name no number.
-const DEFAULT_NODES: u32 = 20_000;
+impl From<clap::Error> for WordFault {
+    ghost use Rattle.std.specs.Prelude.{◌≡◌};
+    ghost use Rattle.clap.specs.Words.{kind_of};
+    ghost use Rattle.flowpaths_cli.specs.Faults.{fault_by};
 
-impl Settings {
-    /// The settings that the words give.
-    pub fn of_words(alloc: Global, words: &[String]) -> Result<Settings, WordFault>
-        ensures ok { IfOk result (λ settings. settings_of (texts words.now) ≡ Some settings) }
-        ensures words { (result ≡ Err WordFault.Words) ↔ IsNone (settings_of (texts words.now)) }
-        ensures built { IfOk result AreBuilt }
-        ensures no_demo { IfOk result (λ settings. settings.demo ≡ None) }
-    {
-        match Said::by(words) {
-            Some(said) => settings_by(alloc, said),
-            None => Err(WordFault::Words),
+    ghost from_gives = { λ error fault. fault ≡ fault_by (kind_of error) };
+
+    fn from(error: clap::Error) -> Self {
+        match error.kind() {
+            ErrorKind::OutOfMemory => WordFault::Memory,
+            _ => WordFault::Words,
         }
     }
 }
 
-/// The settings by what all words said.
-fn settings_by(alloc: Global, said: Said<'_>) -> Result<Settings, WordFault>
-    ensures ok { IfOk result (λ settings. settings_after (Some said.entry) [] ≡ Some settings) }
-    ensures words { (result ≡ Err WordFault.Words) ↔ IsNone (settings_after (Some said.entry) []) }
-{
-    if matches!(said.next, Next::Value(_)) {
-        return Err(WordFault::Words);
+impl Settings {
+    /// The settings that the words give.
+    #[tactic(auto, unfolding(crate::specs::Words::settings_of))]
+    pub fn of_words(alloc: Global, words: &[String]) -> Result<Settings, WordFault>
+        ensures ok { IfOk result (λ settings. settings_of (texts words.now) ≡ Some settings) }
+
+        // Refused words are the cause of `Words`; where memory is wanting to read them, `Memory` comes in its place.
+        ensures words { result ≡ Err WordFault.Words → IsNone (settings_of (texts words.now)) }
+        ensures refused { IsNone (settings_of (texts words.now)) → (result ≡ Err WordFault.Words) ⊎ (result ≡ Err WordFault.Memory) }
+        ensures built { IfOk result AreBuilt }
+    {
+        let given = Given::by(alloc, words)?;
+        if given.is_refused() {
+            return Err(WordFault::Words);
+        }
+        let settings = settings_by(alloc, given)?;
+        Ok(settings)
     }
-    let name = said.file.unwrap_or("-");
-    let file = Word::from_string(String::from_str(alloc, name)?);
+}
+
+/// The settings by what is given.
+fn settings_by(alloc: Global, given: Given<'_>) -> Result<Settings, AllocError>
+    ensures { IfOk result (λ settings. settings ≡ settings_by (values_in given.entry)) }
+{
+    let file = Word::from_string(String::from_str(alloc, given.name())?);
     Ok(Settings {
-        mode: Mode::Exact,
-        nodes: said.nodes.unwrap_or(DEFAULT_NODES),
-        safe: said.safe,
-        demo: None,
+        mode: given.mode(),
+        nodes: given.nodes(),
+        safe: given.safe,
+        demo: given.seed(),
         file,
     })
 }

@@ -1,11 +1,8 @@
-use Rattle.std.proofs.Common.{◌≡◌, subst, Some}
-use Rattle.std.specs.Prelude.{Option, IfOk}
-use Rattle.flowpaths_cli.specs.declared.settings.Settings.{Settings}
-use Rattle.flowpaths_cli.specs.Words.{texts}
-use Rattle.flowpaths_cli.proofs.WordSettings.{ok-built}
+use Rattle.std.proofs.Common.{◌∙◌, sym}
+use Rattle.flowpaths_cli.specs.Values.{values_in}
+use Rattle.flowpaths_cli.proofs.WordSettings.{are-built}
 use Rattle.flowpaths_cli.proofs.settings.Settings.of_words.Goals as goal
 
-pub returns-in-Some-clause-built : goal.returns-in-Some-clause-built
-returns-in-Some-clause-built c =
-    ok-built (texts c.args.words.now) c.settings_by.result
-    (subst (λ (o : Option Settings). IfOk c.settings_by.result (λ settings. o ≡ Some settings)) c.in-Some.ensures c.settings_by.ensures.ok)
+pub returns-clause-built : goal.returns-clause-built
+returns-clause-built c =
+    are-built (values_in c.in_ok-given.given) c.in_ok-settings.settings (sym c.is_refused.ensures ∙ c.if-is_refused.false) c.in_ok-settings.ensures

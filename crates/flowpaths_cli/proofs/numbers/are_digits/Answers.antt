@@ -3,7 +3,7 @@ use Rattle.std.specs.List.{list_all}
 use Rattle.std.proofs.lemmas.Iterator.{YieldsList-from_slice}
 use Rattle.std.proofs.lemmas.Iterator.Search.{all_from_yields_List}
 use borrow.Author.Tests.{tests}
-use Rattle.flowpaths_cli.proofs.options.are_digits.Goals as goal
+use Rattle.flowpaths_cli.proofs.numbers.are_digits.Goals as goal
 
 abbrev digit : ℕ → Bool
 digit byte = leb 48 byte && leb byte 57

@@ -1,6 +1,6 @@
 use Rattle.std.proofs.Common.{◌≡◌, ◌≤◌, take}
 use Rattle.graph_text.specs.Reading.{number_of}
-use Rattle.flowpaths_cli.proofs.options.capped_number.Given as goal
+use Rattle.flowpaths_cli.proofs.numbers.capped_number.Given as goal
 
 abbrev pub invariant-loop-digit : goal.invariant-loop-digit
 invariant-loop-digit l = (l.value ≡ number_of (take l.digit-index l.digits)) × (l.value ≤ l.fn.most)

@@ -1,7 +1,7 @@
 use Rattle.std.proofs.Common.{◌+◌, arith}
 use Rattle.graph_text.proofs.Weights.{number_of-more}
 use Rattle.flowpaths_cli.proofs.WordNumbers.{too_great}
-use Rattle.flowpaths_cli.proofs.options.capped_number.Goals as goal
+use Rattle.flowpaths_cli.proofs.numbers.capped_number.Goals as goal
 
 pub returns-then-value-most : goal.returns-then-value-most
 returns-then-value-most c =
