@@ -3,6 +3,7 @@
 
 pub use booking::book;
 pub use greedy::{GreedyFault, decompose, decompose_over, decompose_with};
+pub use units::units_on;
 
 mod booking;
 mod contained;

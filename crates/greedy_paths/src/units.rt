@@ -25,7 +25,7 @@ fn add_units(units: &mut [u64], path: &[u32])
 }
 
 /// The booked units on each edge.
-fn units_on(alloc: Global, net: &Net, booked: &Answer) -> Result<Vec<u64>, AllocError>
+pub fn units_on(alloc: Global, net: &Net, booked: &Answer) -> Result<Vec<u64>, AllocError>
     requires answer { IsAnswer net.now booked.now }
     requires units { IsTrue (list_all (λ entry. entry.1 == 1) booked.now) }
     requires few { length booked.now < 2 ^ 32 }
