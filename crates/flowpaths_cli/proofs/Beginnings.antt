@@ -1,5 +1,5 @@
 -- Where the searches for few paths begin: at a first answer, or at none where the booked paths do not fit.
-use Rattle.std.proofs.Common.{◌≡◌, ◌==◌, ℕ, ◌+◌, ◌≤◌, ◌<◌, List, [], ◌∷◌, Option, Some, None, true, ◌&&◌, cond, length, get_or, refl, sym, ap, ap₂, subst, ◌∙◌, arith, eqb→eq}
+use Rattle.std.proofs.Common.{◌≡◌, ◌==◌, ℕ, ◌+◌, ◌≤◌, ◌<◌, List, [], ◌∷◌, Option, Some, None, true, ◌&&◌, cond, length, get_or, refl, sym, ap, ap₂, subst, ◌∙◌, arith, eqb-true}
 use Rattle.std.specs.Prelude.{All, IfSome, IsSomeAnd, slice_index}
 use Rattle.std.specs.List.{list_all}
 use Rattle.std.proofs.lemmas.Grind.{get_or_default_zero, same_number_lists}
@@ -30,7 +30,7 @@ lows_are_highs : (rs : List Range) → list_all (λ (r : Range). r.lo == r.hi) r
 lows_are_highs [] h = refl
 lows_are_highs (r ∷ rs) h =
     let parts = all-parts (λ (r : Range). r.lo == r.hi) r rs h in
-    ap₂ (λ (x : ℕ) (xs : List ℕ). x ∷ xs) (eqb→eq r.lo r.hi parts.0) (lows_are_highs rs parts.1)
+    ap₂ (λ (x : ℕ) (xs : List ℕ). x ∷ xs) (eqb-true r.lo r.hi parts.0) (lows_are_highs rs parts.1)
 
 pub both_same : (rs : List Range) → list_all (λ (r : Range). r.lo == r.hi) rs ≡ true → (e : ℕ) → (range_at rs e).lo ≡ (range_at rs e).hi
 both_same rs h e = sym (lows-at rs e) ∙ (ap (λ (xs : List ℕ). slice_index xs e) (lows_are_highs rs h) ∙ highs-at rs e)

@@ -15,6 +15,8 @@ pub mod FoundPaths
 pub mod Raising
 pub mod Halving
 pub mod LeastError
+pub mod Problems
+pub mod Facts
 pub mod WordNumbers
 pub mod Parsed
 pub mod OnWords

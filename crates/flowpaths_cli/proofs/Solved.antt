@@ -3,27 +3,31 @@ use Rattle.std.proofs.Common.{◌≡◌, ℕ, ◌<◌, ◌^◌, List, [], Option
 use Rattle.std.specs.Prelude.{All, IfSome}
 use Rattle.std.proofs.lemmas.Bool.{and_parts}
 use Rattle.decomposition.specs.declared.Mode.{Mode}
-use Rattle.decomposition.specs.declared.Mode.TheVariants.{Interval}
+use Rattle.decomposition.specs.declared.Mode.TheVariants.{Exact, Interval}
+use Rattle.decomposition.specs.declared.Side.{Side}
 use Rattle.decomposition.specs.declared.Decision.{Decision}
 use Rattle.decomposition.specs.Answer.{IsAnswer, IsInReportOrder}
-use Rattle.decomposition.specs.Certificates.{IsBoundingTree, decision_below, decision_at_all}
+use Rattle.decomposition.specs.Certificates.{IsBoundingTree, IsCut, decision_below, decision_at_all}
 use Rattle.decomposition.specs.Graph.{Graph, is_path}
-use Rattle.decomposition.specs.Instance.{Instance, IsLowerBound}
+use Rattle.decomposition.specs.Instance.{Instance, IsInstance, IsLowerBound, lower_bound}
 use Rattle.decomposition.specs.Searches.{EndsSpent}
 use Rattle.decomposition.specs.Tokens.{IsRefutation, rule_list}
 use Rattle.decomposition.proofs.Crowds.{crowds_refute}
-use Rattle.decomposition.proofs.FewPaths.{trees_refute_all}
+use Rattle.decomposition.proofs.Cuts.{cuts_refute}
+use Rattle.decomposition.proofs.Excess.{error-from_decomposes}
+use Rattle.decomposition.proofs.FewPaths.{flows_decompose, trees_refute_all}
 use Rattle.decomposition.proofs.Root.{all-place, trees_bound}
 use Rattle.path_report.specs.Laws.{AreRisingRuns, HasTrail, IsCertOf, IsEntryOf, IsFoundIn, IsSmall}
 use Rattle.path_report.specs.declared.report.Cert.{Cert}
-use Rattle.path_report.specs.declared.report.Cert.TheVariants.{Tree, Crowd}
+use Rattle.path_report.specs.declared.report.Cert.TheVariants.{Tree, Cut, Crowd}
 use Rattle.path_report.specs.declared.report.Mark.{Mark}
 use Rattle.path_report.specs.declared.report.Mark.TheVariants.{Optimal, Infeasible, Bounds}
 use Rattle.path_report.specs.declared.report.Trail.{Trail}
 use Rattle.flowpaths_cli.specs.declared.counting.Ending.TheVariants.{Width, Refuted, Spent}
 use Rattle.flowpaths_cli.specs.declared.counting.Finding.TheVariants.{Known, Crowded, Never, Open}
+use Rattle.flowpaths_cli.specs.Booking.{IsAtMostFirst}
 use Rattle.flowpaths_cli.specs.declared.settings.Settings.{Settings}
-use Rattle.flowpaths_cli.specs.Right.{AreListed, CountsPaths, IsCertFor, IsTrailFor, SolvedRight, decision_between, is_cut}
+use Rattle.flowpaths_cli.specs.Right.{AreListed, CountsPaths, IsCertFor, IsTrailFor, NothingIsWithin, SolvedRight, decision_between, is_cut}
 use Rattle.flowpaths_cli.specs.Searched.{IsSolvedBy, IsSpentBy}
 use Rattle.flowpaths_cli.proofs.CountedRight.{said, all_same, between_same, cert_for, counted_bounds, counted_none, counted_optimal, no_cut, right_for, width_bounds, with_ranges, one_width}
 
@@ -102,6 +106,20 @@ right_by_never s i es tree runs counts listed by =
     (no_cut s.mode i (Tree tree) refl by.within)
     (trees_refute_all Interval i tree.tokens (with_ranges s.mode i by.valid) by.finds.refuted) in
     right_for s.mode s i _ counts facts listed
+
+-- the ranges have a cut
+pub right_by_cut : (s : Settings) (i : Instance) (side : Side) (xs : List ℕ) → s.mode ≡ Interval → s.safe ≡ false → IsInstance Interval i → IsCut i side xs
+    → SolvedRight s i (said Infeasible None None [] (Cut side xs) None None)
+right_by_cut s i side xs mode unsafe valid cut =
+    let none : NothingIsWithin i = λ a answer zero_error. cuts_refute i side xs a valid.net cut answer zero_error in
+    let first : IsAtMostFirst Interval i None
+    = λ fits b is.
+        let made = flows_decompose i.graph (lower_bound i) valid.net fits.1 in
+        let exact : IsInstance Exact i = record { net = valid.net; ranged = valid.ranged; bounded = valid.bounded; runs = valid.runs; distinct = valid.distinct; fits = fits } in
+        none made.0 made.1.answer (error-from_decomposes i exact made.0 made.1) in
+    let facts = counted_none Interval s.nodes i (Cut side xs) None first (λ no_upper booked books (a, room). none a room.answer room.within)
+    (record { lower = refl; upper = refl; cert = (tt, cut); no_trail = refl }) (λ ranges. (λ is. none, λ nothing. refl)) (λ b ok. none b ok.0 ok.2) in
+    subst (λ m. SolvedRight (record s { mode = m }) i (said Infeasible None None [] (Cut side xs) None None)) (sym mode) (right_for Interval s i _ tt facts (sym unsafe, tt))
 
 -- the entries of an answer fit a report
 entries_fit : (g : Graph) (a : List (List ℕ × ℕ)) → IsAnswer g a → All (λ entry. entry.1 < 2 ^ 64) a → All (IsEntryOf g) a

@@ -1,5 +1,5 @@
 //! What is said of a graph whose paths are counted.
-ghost use Rattle.std.specs.Prelude.{◌≡◌, ℕ, ◌≤◌, ◌<◌, ◌^◌, List, [], length, Some, None, IfSome};
+ghost use Rattle.std.specs.Prelude.{◌≡◌, ℕ, ◌≤◌, ◌<◌, ◌^◌, List, [], length, false, Some, None, IfSome};
 ghost use Rattle.decomposition.specs.declared.Mode.{Mode as AMode};
 ghost use Rattle.decomposition.specs.declared.Mode.TheVariants.{Interval};
 ghost use Rattle.decomposition.specs.Graph.{Graph};
@@ -8,7 +8,7 @@ ghost use Rattle.decomposition.specs.Width.{IsAntichain, IsWidth};
 ghost use Rattle.path_report.specs.Laws.{AreRisingEdges, AreRisingRuns, IsCertOf, IsFoundIn};
 ghost use Rattle.path_report.specs.declared.report.Mark.TheVariants.{Infeasible};
 ghost use Rattle.flowpaths_cli.specs.declared.settings.Settings.{Settings as Given};
-ghost use Rattle.flowpaths_cli.specs.Right.{AreListed, CountsPaths, IsCertFor, SolvedRight};
+ghost use Rattle.flowpaths_cli.specs.Right.{AreListed, CountsPaths, IsCertFor, SolvedRight, is_cut};
 ghost use Rattle.flowpaths_cli.specs.Searched.{IsSolvedBy};
 
 use crate::counting::{Ending, Finding};
@@ -100,6 +100,7 @@ pub fn without_answer(alloc: Global, cert: Cert, safe: Option<IdLists>) -> Solve
 fn cert_of(antichain: Ids) -> Cert
     ensures shows { (nodes : ℕ) (i : Instance) → IsWidth i (length antichain) → IsAntichain i antichain → IsCertFor nodes Interval i (length antichain) result }
     ensures rising { (g : Graph) → AreRisingEdges g antichain → IsCertOf g result }
+    ensures other { is_cut result ≡ false }
 {
     if antichain.len() == 0 {
         Cert::Zero

@@ -13,7 +13,7 @@ use Rattle.flowpaths_cli.specs.Room.{HasNoRoomFor, HasRoomFor, IsFlowIn}
 use Rattle.flowpaths_cli.proofs.Beginnings.{booked_ones, flow_in, flow_small, flow_within, interval_known, interval_unknown}
 use Rattle.flowpaths_cli.proofs.Bounded.{highs, highs_small}
 use Rattle.flowpaths_cli.proofs.interval.first_within.Goals as goal
-use Rattle.flowpaths_cli.proofs.interval.first_within.Goals.{In-Flow}
+use Rattle.flowpaths_cli.proofs.interval.first_within.Goals.{After-as_slice-in-Some, In-Flow}
 
 pub book-requires-clause-small : goal.book-requires-clause-small
 book-requires-clause-small c =
@@ -27,7 +27,7 @@ pub answer_over-requires-clause-units : goal.answer_over-requires-clause-units
 answer_over-requires-clause-units c = booked_ones c.args.net.now (slice_index c.deref.result.now) c.args.problem.now.rules c.in_ok-booked.booked c.in_ok-booked.ensures.booked
 
 -- the flow that was found has room for the booked paths
-room : (c : goal.After-as_slice-in-Some) → HasRoomFor c.args.net.now c.args.problem.now.ranges c.in_ok-booked.booked c.as_slice-in-Some.result.now
+room : (c : After-as_slice-in-Some) → HasRoomFor c.args.net.now c.args.problem.now.ranges c.in_ok-booked.booked c.as_slice-in-Some.result.now
 room c =
     let g = c.args.net.now in
     let ranges = c.args.problem.now.ranges in
@@ -45,21 +45,21 @@ some_within c =
 pub answer_over-requires-clause-small : goal.answer_over-requires-clause-small
 answer_over-requires-clause-small c =
     let i = instance c.args.net.now c.args.problem.now in
-    let has = room c in
+    let has = room c.After-as_slice-in-Some in
     flow_small Interval i c.as_slice-in-Some.result.now c.requires.valid has.within.0 (flow_in i c.as_slice-in-Some.result.now has.within)
 
 pub returns-in-Some : goal.returns-in-Some
 returns-in-Some c =
     let i = instance c.args.net.now c.args.problem.now in
     let flow = c.as_slice-in-Some.result.now in
-    let has = room c in
+    let has = room c.After-as_slice-in-Some in
     let told = c.in_ok-first-in-Some.ensures in
     let is = c.deref.ensures.value ∙ c.in_ok-guide.ensures in
     (
       interval_known built_on_booked_is_first i flow c.in_ok-booked.booked c.in_ok-first-in-Some.first c.requires.valid has.within.0 (flow_in i flow has.within)
       (subst (λ (ws : List ℕ). AreBooked i.graph (slice_index ws) i.rules c.in_ok-booked.booked) is c.in_ok-booked.ensures.booked) c.in_ok-booked.ensures.covers c.in_ok-booked.ensures.few
       told.sums told.order told.few told.keeps told.built,
-      some_within c,
+      some_within c.In-Flow,
     )
 
 pub returns : goal.returns
@@ -71,5 +71,5 @@ returns c =
       interval_unknown booked_paths_are_one_list i booked c.requires.valid
       (subst (λ (ws : List ℕ). AreBooked i.graph (slice_index ws) i.rules booked) is c.in_ok-booked.ensures.booked)
       (subst (λ found. MatchOption found (HasNoRoomFor i.graph i.ranges booked) (HasRoomFor i.graph i.ranges booked)) c.in-None.is c.in_ok-flow-2.ensures),
-      some_within c,
+      some_within c.In-Flow,
     )
