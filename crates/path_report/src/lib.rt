@@ -3,10 +3,12 @@
 
 mod certs;
 mod digits;
+mod draft;
 pub mod examples;
 pub mod laws;
 mod page;
 mod paths;
+mod read_fault;
 mod report;
 mod solved;
 mod tokens;
@@ -15,6 +17,7 @@ mod words;
 mod writer;
 
 pub use decomposition::{Decision, Side, Token};
+pub use read_fault::{ReadFault, ReadRefusal, ReadWhy};
 pub use report::{Body, Cert, Mark, Report, Solved, Trail};
 pub use tokens::Tokens;
 pub use writer::write_report;
