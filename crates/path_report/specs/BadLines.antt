@@ -1,5 +1,5 @@
 -- The first bad line of a text that is no report.
-use Rattle.std.specs.Prelude.{◌≡◌, ℕ, ◌+◌, ◌==◌, List, [], ◌∷◌, length, true, if◌then◌else◌, Option, Some, None, Result, Ok, Err, IsTrue}
+use Rattle.std.specs.Prelude.{◌≡◌, ℕ, ◌+◌, ◌==◌, List, [], ◌∷◌, length, if◌then◌else◌, Option, Some, None, Result, Ok, Err, IsTrue}
 use Rattle.std.specs.List.{slice_split}
 use Rattle.decomposition.specs.declared.Mode.TheVariants.{Exact}
 use Rattle.graph_text.specs.declared.refusal.Refusal.{Refusal}
@@ -45,6 +45,11 @@ step labels d l = step_at labels d l d.place
 abbrev pub at_last : Draft → List ℕ → ℕ → Place → Result Draft (ℕ × ReadWhy)
 at_last d rest n Nothing = if length rest == 0 then Ok d else Err (n, BadForm)
 at_last d rest n _ = Err (n, NoEnd)
+
+-- the number of a line that is bad, and why it is
+abbrev pub bad_at : ℕ → Result Draft ReadWhy → Option (ℕ × ReadWhy)
+bad_at n (Ok d) = None
+bad_at n (Err why) = Some (n, why)
 
 -- a line that is bad has its number
 abbrev pub numbered : ℕ → (Draft → Result Draft (ℕ × ReadWhy)) → Result Draft ReadWhy → Result Draft (ℕ × ReadWhy)

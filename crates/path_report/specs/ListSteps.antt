@@ -31,14 +31,18 @@ abbrev pub may_follow : {X : Type 0} → (X → X → Bool) → Option X → X �
 may_follow before None x = true
 may_follow before (Some last) x = before last x
 
--- a path
-abbrev pub path_step : LabelLists → Draft → List (List ℕ) → Result Draft ReadWhy
-path_step labels d fields =
+-- a path and its weight, after the paths before it
+abbrev pub path_after : LabelLists → List (List ℕ × ℕ) → List (List ℕ) → Result (List ℕ × ℕ) ReadWhy
+path_after labels paths fields =
     given BadNumber (number_in 1 greatest (field_at fields 1)) (λ weight.
     given BadName (edges_in labels (drop 2 fields)) (λ path.
-    let entry : List ℕ × ℕ = (path, weight) in
-    must BadOrder (may_follow comes_before (last_of d.solved.paths) entry)
-    (Ok (found_so_far d PathOrCert (record d.solved { paths = d.solved.paths ++ entry ∷ [] })))))
+    must BadOrder (may_follow comes_before (last_of paths) (path, weight)) (Ok (path, weight))))
+
+-- a decision, from the fields behind the word, and the number of tokens
+abbrev pub trail_in : List ℕ → List ℕ → List ℕ → Result (Trail × ℕ) ReadWhy
+trail_in slots limit count =
+    given BadNumber (decision_in slots limit) (λ decision.
+    given BadNumber (number_in 0 greatest count) (λ n. Ok (record { decision = decision; tokens = [] }, n)))
 
 -- a certificate without its items, and the number of them
 abbrev pub cert_in : LabelLists → List (List ℕ) → Result (Cert × ℕ) ReadWhy
@@ -47,8 +51,7 @@ cert_in labels fields =
     else (if has_words (codes "cert" ∷ codes "wide" ∷ []) 3 fields
     then given BadNumber (number_in 0 greatest (field_at fields 2)) (λ n. Ok (Wide [], n))
     else (if has_words (codes "cert" ∷ codes "tree" ∷ []) 5 fields
-    then given BadNumber (decision_in (field_at fields 2) (field_at fields 3)) (λ decision.
-        given BadNumber (number_in 0 greatest (field_at fields 4)) (λ n. Ok (Tree (record { decision = decision; tokens = [] }), n)))
+    then given_ok (trail_in (field_at fields 2) (field_at fields 3) (field_at fields 4)) (λ t. Ok (Tree t.0, t.1))
     else (if has_words (codes "cert" ∷ codes "cut" ∷ codes "in" ∷ []) 4 fields
     then given BadNumber (number_in 0 greatest (field_at fields 3)) (λ n. Ok (Cut Entering [], n))
     else (if has_words (codes "cert" ∷ codes "cut" ∷ codes "out" ∷ []) 4 fields
@@ -74,7 +77,10 @@ cert_step labels d fields =
 -- a path, or the certificate
 abbrev pub path_or_cert_step : LabelLists → Draft → List (List ℕ) → Result Draft ReadWhy
 path_or_cert_step labels d fields =
-    if has_words_and_more (codes "path" ∷ []) 4 fields then path_step labels d fields else cert_step labels d fields
+    if has_words_and_more (codes "path" ∷ []) 4 fields
+    then given_ok (path_after labels d.solved.paths fields) (λ entry.
+        Ok (found_so_far d PathOrCert (record d.solved { paths = d.solved.paths ++ entry ∷ [] })))
+    else cert_step labels d fields
 
 -- a token
 abbrev pub token_in : List (List ℕ) → Result Token ReadWhy
@@ -127,9 +133,8 @@ before_tokens n = if n == 0 then SafeOrEnd else TrailToken n
 abbrev pub trail_step : Draft → List (List ℕ) → Result Draft ReadWhy
 trail_step d fields =
     must BadForm (has_words (codes "trail" ∷ []) 4 fields)
-    (given BadNumber (decision_in (field_at fields 1) (field_at fields 2)) (λ decision.
-    given BadNumber (number_in 0 greatest (field_at fields 3)) (λ n.
-    Ok (found_so_far d (before_tokens n) (record d.solved { trail = Some (record { decision = decision; tokens = [] }) })))))
+    (given_ok (trail_in (field_at fields 1) (field_at fields 2) (field_at fields 3)) (λ t.
+    Ok (found_so_far d (before_tokens t.1) (record d.solved { trail = Some t.0 }))))
 
 -- a token of the trail, the first of so many
 abbrev pub trail_token_step : Draft → ℕ → List (List ℕ) → Result Draft ReadWhy
@@ -148,10 +153,14 @@ safe_or_end_step d fields =
     then given BadNumber (number_in 0 greatest (field_at fields 1)) (λ n. Ok (found_so_far d (before_runs n) (record d.solved { safe = Some [] })))
     else end_step d fields
 
+-- a safe run, after the runs before it
+abbrev pub run_after : LabelLists → List (List ℕ) → List (List ℕ) → Result (List ℕ) ReadWhy
+run_after labels runs fields =
+    must BadForm (has_words_and_more (codes "run" ∷ []) 3 fields)
+    (given BadName (edges_in labels (drop 1 fields)) (λ run. must BadOrder (may_follow is_list_before (last_of runs) run) (Ok run)))
+
 -- a safe run, the first of so many
 abbrev pub run_step : LabelLists → Draft → ℕ → List (List ℕ) → Result Draft ReadWhy
 run_step labels d n fields =
-    must BadForm (has_words_and_more (codes "run" ∷ []) 3 fields)
-    (given BadName (edges_in labels (drop 1 fields)) (λ run.
-    must BadOrder (may_follow is_list_before (last_of (unwrap_or d.solved.safe [])) run)
-    (Ok (found_so_far d (before_runs (n - 1)) (record d.solved { safe = option_map (λ runs. runs ++ run ∷ []) d.solved.safe })))))
+    given_ok (run_after labels (unwrap_or d.solved.safe []) fields) (λ run.
+    Ok (found_so_far d (before_runs (n - 1)) (record d.solved { safe = option_map (λ runs. runs ++ run ∷ []) d.solved.safe })))
