@@ -3,8 +3,6 @@ use Rattle.std.proofs.Common.{◌≡◌, ℕ, ◌+◌, ◌<◌, Bool, true, fals
 use Rattle.std.specs.Borrow.{Bor}
 use Rattle.std.specs.List.{list_any, starts_with}
 use Rattle.std.specs.Str.{bytes_eq}
-
-
 use Rattle.path_report.specs.LineFields.{texts}
 
 pub list_any-texts : (test : List ℕ → Bool) (fields : List (Bor (List ℕ))) → list_any (λ field. test field.now) fields ≡ list_any test (texts fields)

@@ -52,9 +52,9 @@ number-spelled least most field n small h =
     let some : 0 < length field = not_empty field e.0 in
     let is : decimal (number_of field) ≡ field = decimal-digits_value own field e.1 some (one_zero field b.0) (omega arith) in
     record { spelled = sym is ∙ ap decimal c.1; least_is = omega (arith, c.1); most_is = omega (arith, c.1) } where
-  not_empty : (f : List ℕ) → not (length f == 0) ≡ true → 0 < length f
-  not_empty [] t = absurd (cc)
-  not_empty (x ∷ xs) t = omega arith
+      not_empty : (f : List ℕ) → not (length f == 0) ≡ true → 0 < length f
+      not_empty [] t = absurd (cc)
+      not_empty (x ∷ xs) t = omega arith
 
 pub limit-spelled : (field : List ℕ) (bound : Option ℕ) → limit_in field ≡ Some bound → (field ≡ number_or_none bound) × (fits_or_none bound ≡ true)
 limit-spelled field bound h = by (cases_Bool (bytes_eq field (codes "none"))) where

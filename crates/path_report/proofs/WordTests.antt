@@ -14,9 +14,9 @@ pub line-spaced : (l : List ℕ) → 0 < length (spaced_fields l) → line (spac
 line-spaced l some =
     let fields = slice_split (λ b. b == 32) l in
     by (list_any (λ b. b == 9) l || list_any (λ field. length field == 0) fields) fields (join_with_byte-slice_split 32 l) some where
-  by : (bad : Bool) (fields : List (List ℕ)) → join_with_byte 32 fields ≡ l → 0 < length (cond bad [] fields) → line (cond bad [] fields) ≡ l ++ 10 ∷ []
-  by true fields joined h = absurd (omega (arith, h))
-  by false fields joined h = ap (λ x. x ++ 10 ∷ []) joined
+      by : (bad : Bool) (fields : List (List ℕ)) → join_with_byte 32 fields ≡ l → 0 < length (cond bad [] fields) → line (cond bad [] fields) ≡ l ++ 10 ∷ []
+      by true fields joined h = absurd (omega (arith, h))
+      by false fields joined h = ap (λ x. x ++ 10 ∷ []) joined
 
 -- fields that begin with a word, with two and with three words
 begins-one : (w : List ℕ) (fields : List (List ℕ)) → starts_with bytes_eq fields (w ∷ []) ≡ true → fields ≡ w ∷ drop 1 fields

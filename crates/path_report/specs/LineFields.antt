@@ -46,7 +46,7 @@ greatest = 18446744073709551615
 abbrev pub number_in : ℕ → ℕ → List ℕ → Option ℕ
 number_in least most field =
     if are_digits field
-        && ((length field == 1 || not (begins_with_zero field)) && (nat_le least (number_of field) && nat_le (number_of field) most))
+    && ((length field == 1 || not (begins_with_zero field)) && (nat_le least (number_of field) && nat_le (number_of field) most))
     then Some (number_of field)
     else None
 

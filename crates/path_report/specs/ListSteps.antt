@@ -57,8 +57,8 @@ cert_in labels fields =
     else (if has_words (codes "cert" ∷ codes "cut" ∷ codes "out" ∷ []) 4 fields
     then given BadNumber (number_in 0 greatest (field_at fields 3)) (λ n. Ok (Cut Leaving [], n))
     else must BadForm (has_words (codes "cert" ∷ codes "crowd" ∷ []) 5 fields)
-        (given BadNumber (number_in 0 greatest (field_at fields 4)) (λ n.
-        given BadName (edge_in labels (field_at fields 2) (field_at fields 3)) (λ e. Ok (Crowd e [], n))))))))
+    (given BadNumber (number_in 0 greatest (field_at fields 4)) (λ n.
+    given BadName (edge_in labels (field_at fields 2) (field_at fields 3)) (λ e. Ok (Crowd e [], n))))))))
 
 -- the place after a certificate, and the one before so many of its items
 abbrev pub after_cert : Mark → Place
@@ -79,7 +79,7 @@ abbrev pub path_or_cert_step : LabelLists → Draft → List (List ℕ) → Resu
 path_or_cert_step labels d fields =
     if has_words_and_more (codes "path" ∷ []) 4 fields
     then given_ok (path_after labels d.solved.paths fields) (λ entry.
-        Ok (found_so_far d PathOrCert (record d.solved { paths = d.solved.paths ++ entry ∷ [] })))
+    Ok (found_so_far d PathOrCert (record d.solved { paths = d.solved.paths ++ entry ∷ [] })))
     else cert_step labels d fields
 
 -- a token

@@ -100,11 +100,7 @@ fn rule_after(rules: &[u32], fields: &[&[u8]]) -> Result<u32, LineFault>
 }
 
 /// Adds an item to a certificate.
-pub(crate) fn add_item(
-    labels: &Labels,
-    cert: &mut Cert,
-    fields: &[&[u8]],
-) -> Result<(), LineFault>
+pub(crate) fn add_item(labels: &Labels, cert: &mut Cert, fields: &[&[u8]]) -> Result<(), LineFault>
     ensures ok { OnOk result (with_item labels.now cert.old (texts fields.now) ≡ Ok cert.new) }
     ensures err { IfErr result (FaultsAs (with_item labels.now cert.old (texts fields.now))) }
 {

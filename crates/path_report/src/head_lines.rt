@@ -63,7 +63,11 @@ fn before_space(bytes: &[u8]) -> &[u8]
     ensures { result.now ≡ before_first (λ b. b == 32) bytes.now }
 {
     let end = place_of_space(bytes);
-    if end < bytes.len() { &bytes[..end] } else { bytes }
+    if end < bytes.len() {
+        &bytes[..end]
+    } else {
+        bytes
+    }
 }
 
 /// What stands after the first space, nothing where there is none.
@@ -71,7 +75,11 @@ fn after_space(bytes: &[u8]) -> &[u8]
     ensures { result.now ≡ after_first (λ b. b == 32) bytes.now }
 {
     let end = place_of_space(bytes);
-    if end < bytes.len() { &bytes[end + 1..] } else { b"" }
+    if end < bytes.len() {
+        &bytes[end + 1..]
+    } else {
+        b""
+    }
 }
 
 /// Whether there is a byte, and no tab.

@@ -5,8 +5,7 @@ ghost use Rattle.path_report.specs.declared.read_fault.ReadFault.TheVariants.{Re
 ghost use Rattle.path_report.specs.BadLines.{step, at_last, read_from, empty_draft, text_lines, first_bad_line, bad_line, bad_at, IsTextOf, RefusesAs};
 
 use crate::draft::{Draft, Place};
-use crate::read_fault::LineFault;
-use crate::read_fault::{ReadFault, ReadRefusal, ReadWhy};
+use crate::read_fault::{LineFault, ReadFault, ReadRefusal, ReadWhy};
 use crate::report::Report;
 use graph_text::Labels;
 use std::alloc::Global;

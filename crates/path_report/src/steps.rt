@@ -184,12 +184,7 @@ impl Draft {
     }
 
     /// Takes an item of the certificate, the first of so many.
-    fn take_item(
-        &mut self,
-        labels: &Labels,
-        left: u64,
-        fields: &[&[u8]],
-    ) -> Result<(), LineFault>
+    fn take_item(&mut self, labels: &Labels, left: u64, fields: &[&[u8]]) -> Result<(), LineFault>
         ensures ok { OnOk result (item_step labels.now self.old left (texts fields.now) ≡ Ok self.new) }
         ensures err { IfErr result (FaultsAs (item_step labels.now self.old left (texts fields.now))) }
     {

@@ -5,7 +5,6 @@ use Rattle.std.proofs.lemmas.List.{length-map}
 use Rattle.path_report.specs.LineFields.{texts, field_at}
 use Rattle.path_report.proofs.BorrowedFields.{starts_with-more, starts_with-not}
 use Rattle.path_report.proofs.fields.begin_with.Goals as goal
-
 use Rattle.path_report.proofs.fields.begin_with.Goals.{After-is_same}
 
 -- what the test of the next word and the next field says

@@ -5,7 +5,6 @@ use Rattle.std.specs.Option.{option_map}
 use Rattle.path_report.specs.LineFields.{texts, field_at, edge_in, edges_in}
 use Rattle.path_report.proofs.Named.{edges_in-more, edges_in-none, edges_in-all}
 use Rattle.path_report.proofs.names.edges_in.Goals as goal
-
 use Rattle.path_report.proofs.names.edges_in.Goals.{After-edge_in}
 
 -- what the call found, by the names
