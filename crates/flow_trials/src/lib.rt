@@ -20,6 +20,8 @@ mod fronts;
 #[cfg(test)]
 mod problems;
 #[cfg(test)]
+mod readings;
+#[cfg(test)]
 mod rows;
 mod runs;
 #[cfg(test)]

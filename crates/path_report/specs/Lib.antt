@@ -3,3 +3,7 @@ pub mod ReportText
 pub mod Sending
 pub mod Laws
 pub mod Rows
+pub mod LineFields
+pub mod LineSteps
+pub mod ListSteps
+pub mod BadLines

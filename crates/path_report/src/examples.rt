@@ -4,7 +4,9 @@ ghost use Rattle.decomposition.specs.declared.Side.TheVariants.{Entering, Leavin
 ghost use Rattle.decomposition.specs.declared.Token.TheVariants.{Miss, Split};
 ghost use Rattle.graph_text.specs.Labels.{empty_labels};
 ghost use Rattle.path_report.specs.declared.report.Cert.TheVariants.{Zero, Tree, Cut, Crowd};
+ghost use Rattle.path_report.specs.declared.read_fault.ReadWhy.TheVariants.{BadForm, BadNumber, BadName, BadOrder, NoEnd};
 ghost use Rattle.path_report.specs.ReportText.{text_of, is_regular};
+ghost use Rattle.path_report.specs.BadLines.{first_bad_line};
 ghost use Rattle.path_report.specs.Rows.{one_edge, two_sides, optimal_report, refused_report, sides_report, safe_report, trail_report, no_slot, one_slot, open_report, infeasible_report};
 
 /// A path that is the least answer, with an edge that shows it.
@@ -82,4 +84,16 @@ pub fn crowd_by_example()
     ensures falling { is_regular two_sides (infeasible_report (Crowd 2 (9 ∷ 0 ∷ []))) ≡ false }
     ensures outside { is_regular two_sides (infeasible_report (Crowd 4 (0 ∷ []))) ≡ false }
     ensures above { is_regular two_sides (infeasible_report (Crowd 2 (4294967295 ∷ []))) ≡ false }
+{}
+
+/// The first bad line of a text, and why it is bad.
+pub fn bad_lines_by_example()
+    ensures right { first_bad_line one_edge (text_of one_edge optimal_report) ≡ None }
+    ensures refused { first_bad_line empty_labels (text_of empty_labels refused_report) ≡ None }
+    ensures form { first_bad_line one_edge (codes "graph 1\nmodel  exact\n") ≡ Some (2, BadForm) }
+    ensures behind { first_bad_line empty_labels (codes "graph 1 x\nmodel exact\nrefused 3 Unconserved\nend\nx") ≡ Some (5, BadForm) }
+    ensures number { first_bad_line one_edge (codes "graph 01\n") ≡ Some (1, BadNumber) }
+    ensures name { first_bad_line one_edge (codes "graph 1\nmodel exact\nmark optimal\nlower 1\nupper 1\npath 5 s t\ncert wide 1\nedge t s\nend\n") ≡ Some (8, BadName) }
+    ensures order { first_bad_line one_edge (codes "graph 1\nmodel exact\nmark optimal\nlower 1\nupper 1\npath 5 s t\npath 5 s t\n") ≡ Some (7, BadOrder) }
+    ensures cut { first_bad_line one_edge (codes "graph 1\nmodel exact\nmark") ≡ Some (3, NoEnd) }
 {}

@@ -1,6 +1,7 @@
 //! The words of reports.
 ghost use Rattle.std.specs.Prelude.{◌≡◌};
 ghost use Rattle.path_report.specs.ReportText.{mark_word, side_word, why_word};
+ghost use Rattle.path_report.specs.LineFields.{why_in};
 
 use crate::report::Mark;
 use decomposition::Side;
@@ -45,4 +46,25 @@ pub fn name_of(why: Why) -> &'static [u8]
         Why::UnknownEdge => b"UnknownEdge",
         Why::Unconserved => b"Unconserved",
     }
+}
+
+/// All refusals of a block.
+const ALL_WHYS: [Why; 10] = [
+    Why::Later,
+    Why::LongLine,
+    Why::BadCount,
+    Why::BadFields,
+    Why::BadWeight,
+    Why::BadRange,
+    Why::RepeatedEdge,
+    Why::TooManyEdges,
+    Why::Cycle,
+    Why::Unconserved,
+];
+
+/// The refusal of a word.
+pub(crate) fn why_in(word: &[u8]) -> Option<Why>
+    ensures { result ≡ why_in word.now }
+{
+    ALL_WHYS.iter().copied().find(|why| name_of(*why) == word)
 }
