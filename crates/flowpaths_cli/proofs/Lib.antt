@@ -17,6 +17,7 @@ pub mod Halving
 pub mod LeastError
 pub mod Problems
 pub mod Facts
+pub mod Rising
 pub mod WordNumbers
 pub mod Parsed
 pub mod OnWords

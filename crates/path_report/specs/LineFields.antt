@@ -7,7 +7,7 @@ use Rattle.std.specs.Str.{bytes_eq}
 use Rattle.decomposition.specs.declared.Decision.{Decision}
 use Rattle.decomposition.specs.Graph.{same_ends}
 use Rattle.graph_text.specs.declared.refusal.Why.{Why}
-use Rattle.graph_text.specs.declared.refusal.Why.TheVariants.{Later, LongLine, BadCount, BadFields, BadWeight, BadRange, RepeatedEdge, TooManyEdges, Cycle, Unconserved}
+use Rattle.graph_text.specs.declared.refusal.Why.TheVariants.{LongLine, BadCount, BadFields, BadWeight, BadRange, RepeatedEdge, TooManyEdges, TooManyConstraints, ShortConstraint, Cycle, UnknownEdge, Unconserved}
 use Rattle.graph_text.specs.Labels.{LabelLists}
 use Rattle.graph_text.specs.Reading.{are_digits, number_of}
 use Rattle.path_report.specs.ReportText.{why_word}
@@ -66,7 +66,7 @@ decision_in slots limit =
 -- all refusals of a block
 abbrev pub all_whys : List Why
 all_whys =
-    Later ∷ LongLine ∷ BadCount ∷ BadFields ∷ BadWeight ∷ BadRange ∷ RepeatedEdge ∷ TooManyEdges ∷ Cycle ∷ Unconserved ∷ []
+    LongLine ∷ BadCount ∷ BadFields ∷ BadWeight ∷ BadRange ∷ RepeatedEdge ∷ TooManyEdges ∷ TooManyConstraints ∷ ShortConstraint ∷ Cycle ∷ UnknownEdge ∷ Unconserved ∷ []
 
 -- the refusal that has this word
 abbrev pub why_in : List ℕ → Option Why

@@ -49,8 +49,7 @@ pub fn name_of(why: Why) -> &'static [u8]
 }
 
 /// All refusals of a block.
-const ALL_WHYS: [Why; 10] = [
-    Why::Later,
+const ALL_WHYS: [Why; 12] = [
     Why::LongLine,
     Why::BadCount,
     Why::BadFields,
@@ -58,7 +57,10 @@ const ALL_WHYS: [Why; 10] = [
     Why::BadRange,
     Why::RepeatedEdge,
     Why::TooManyEdges,
+    Why::TooManyConstraints,
+    Why::ShortConstraint,
     Why::Cycle,
+    Why::UnknownEdge,
     Why::Unconserved,
 ];
 
