@@ -51,7 +51,7 @@ lows_made : (i : Instance) (a : List (List ℕ × ℕ)) → Decomposes i.graph (
 lows_made i a made = record { answer = made.answer; sums = λ e inside. made.sums e inside ∙ lows-at i.ranges e }
 
 -- a first answer of the weights of an exact graph, or none
-pub exact_beginning : BookedPathsAreOneList → (i : Instance) (first : Option (List (List ℕ × ℕ))) → IsInstance Exact i → IsFirstOfFlow i.graph (slice_index (lows i.ranges)) i.rules first → IsBeginning Exact i first
+exact_beginning : BookedPathsAreOneList → (i : Instance) (first : Option (List (List ℕ × ℕ))) → IsInstance Exact i → IsFirstOfFlow i.graph (slice_index (lows i.ranges)) i.rules first → IsBeginning Exact i first
 exact_beginning one i (Some a) valid is =
     let none = error-from_decomposes i valid a (lows_made i a is.made) in
     record {
@@ -69,6 +69,10 @@ exact_beginning one i None valid is = record {
       let equal : is.booked ≡ booked = one i.graph (slice_index (lows i.ranges)) (upper_bound i) i.rules is.booked booked same valid.runs is.books books in
       is.passed (λ e inside. omega (arith, subst (λ ps. weight_on (with_unit ps) e ≤ upper_bound i e) (sym equal) (fit e inside), same e));
 }
+
+-- the same, where the lower bounds stand as another list
+pub exact_beginning_of : BookedPathsAreOneList → (i : Instance) (flow : List ℕ) (first : Option (List (List ℕ × ℕ))) → flow ≡ lows i.ranges → IsInstance Exact i → IsFirstOfFlow i.graph (slice_index flow) i.rules first → IsBeginning Exact i first
+exact_beginning_of one i flow first are valid is = exact_beginning one i first valid (subst (λ (ws : List ℕ). IsFirstOfFlow i.graph (slice_index ws) i.rules first) are is)
 
 -- paths that make up a flow within the ranges lie within them
 pub error-from_within : (i : Instance) (flow : ℕ → ℕ) (a : List (List ℕ × ℕ)) → IsFlowWithin i flow → Decomposes i.graph flow a → error i a ≡ 0

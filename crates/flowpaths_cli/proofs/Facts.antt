@@ -1,13 +1,15 @@
 -- What is known of a graph whose paths are counted, when the searches have ended.
-use Rattle.std.proofs.Common.{◌≡◌, ℕ, ◌≤◌, List, Option, Bool, true, false, length, refl}
+use Rattle.std.proofs.Common.{◌≡◌, ℕ, ◌≤◌, List, Option, Bool, true, false, length, refl, sym, ◌∙◌}
 use Rattle.std.specs.Prelude.{IfSome, IsSomeAnd}
 use Rattle.decomposition.specs.declared.Mode.{Mode}
+use Rattle.decomposition.specs.declared.Mode.TheVariants.{Exact}
 use Rattle.decomposition.specs.Instance.{Instance, IsInstance}
 use Rattle.decomposition.specs.Width.{IsAntichain, IsWidth}
 use Rattle.path_report.specs.Laws.{AreRisingEdges}
 use Rattle.flowpaths_cli.specs.declared.counting.Finding.{Finding}
 use Rattle.flowpaths_cli.specs.Firsts.{IsBeginning}
-use Rattle.flowpaths_cli.specs.Right.{CountsPaths, HasRanges, NothingIsWithin}
+use Rattle.flowpaths_cli.specs.declared.settings.Settings.{Settings}
+use Rattle.flowpaths_cli.specs.Right.{AreBuilt, CountsPaths, HasRanges, NothingIsWithin}
 use Rattle.flowpaths_cli.specs.Searched.{FindsAs, IsSolvedBy, count_of}
 use Rattle.flowpaths_cli.proofs.Beginnings.{first-kept, fits-kept}
 
@@ -26,6 +28,10 @@ solved_facts nodes mode i es first finding counts valid beginning wide chain ris
 }
 
 -- what is denied does not hold
-pub denied : (b : Bool) → (b ≡ true → ⊥) → b ≡ false
+denied : (b : Bool) → (b ≡ true → ⊥) → b ≡ false
 denied true never = absurd (never refl)
 denied false never = refl
+
+-- in a model other than exact no safe runs are asked for
+pub not_safe : (set : Settings) (mode : Mode) → AreBuilt set → set.mode ≡ mode → (mode ≡ Exact → ⊥) → set.safe ≡ false
+not_safe set mode built is other = denied set.safe (λ safe. other (sym is ∙ built.safe safe))

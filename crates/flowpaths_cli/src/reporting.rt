@@ -39,7 +39,6 @@ fn answer(
 ) -> Result<(Body, Labels), AllocError>
     requires built { AreBuilt settings.now }
     requires valid { IfOk body (IsAccepted settings.now.mode) }
-    requires no_runs { IfOk body (λ graph. graph.runs ≡ []) }
     requires numbered { IfErr body (λ refusal. 1 ≤ refusal.line) }
     ensures right { IfOk result (λ found. BodyRight settings.now body found.0) }
     ensures labels { IfOk result (λ found. found.1 ≡ labels_of body) }

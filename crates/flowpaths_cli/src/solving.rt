@@ -28,7 +28,6 @@ pub fn solve_block(
 ) -> Result<Solved, AllocError>
     requires built { AreBuilt settings.now }
     requires valid { IsAccepted settings.now.mode graph.now }
-    requires few_runs { length graph.now.runs ≤ 32 }
     ensures regular { IfOk result (λ solved. IsTrue (is_regular_solved graph.now.labels solved)) }
     ensures right { IfOk result (SolvedRight settings.now (instance_of graph.now)) }
 {

@@ -6,16 +6,15 @@ use Rattle.decomposition.specs.Flow.{IsBalanced}
 use Rattle.decomposition.specs.SafeRuns.{AreMaximal, IsSafeFor}
 use Rattle.flow_models.specs.Problem.{instance}
 use Rattle.greedy_paths.proofs.OneList.{booked_paths_are_one_list}
-use Rattle.flowpaths_cli.specs.Firsts.{IsBeginning, IsFirstOfFlow}
 use Rattle.flowpaths_cli.specs.Right.{CountsPaths}
 use Rattle.flowpaths_cli.specs.Searched.{FindsAs, IsSolvedBy}
-use Rattle.flowpaths_cli.proofs.Beginnings.{exact_beginning, lows_balanced}
+use Rattle.flowpaths_cli.proofs.Beginnings.{exact_beginning_of, lows_balanced}
 use Rattle.flowpaths_cli.proofs.Bounded.{lows_small}
 use Rattle.flowpaths_cli.proofs.Facts.{solved_facts}
 use Rattle.flowpaths_cli.proofs.SafeLists.{listed_rising, listed_safe}
 use Rattle.flowpaths_cli.proofs.Widths.{rising_edges}
 use Rattle.flowpaths_cli.proofs.exact.solve_exact.Goals as goal
-use Rattle.flowpaths_cli.proofs.exact.solve_exact.Goals.{After-solved_by, In_ok-first}
+use Rattle.flowpaths_cli.proofs.exact.solve_exact.Goals.{After-solved_by}
 
 pub safe_runs-requires-clause-small : goal.safe_runs-requires-clause-small
 safe_runs-requires-clause-small c =
@@ -33,28 +32,25 @@ pub first_answer-requires-clause-balanced : goal.first_answer-requires-clause-ba
 first_answer-requires-clause-balanced c =
     subst (λ (ws : List ℕ). IsBalanced c.args.net.now (slice_index ws)) (sym (c.deref-2.ensures.value ∙ c.in_ok-flow.ensures)) (lows_balanced (instance c.args.net.now c.args.problem.now) c.requires.valid)
 
--- where the searches begin
-beginning : (c : In_ok-first) → IsBeginning Exact (instance c.args.net.now c.args.problem.now) c.in_ok-first.first
-beginning c =
-    let i = instance c.args.net.now c.args.problem.now in
-    exact_beginning booked_paths_are_one_list i c.in_ok-first.first c.requires.valid
-    (subst (λ (ws : List ℕ). IsFirstOfFlow i.graph (slice_index ws) i.rules c.in_ok-first.first) (c.deref-2.ensures.value ∙ c.in_ok-flow.ensures) c.in_ok-first.ensures)
-
 pub find_fewest-requires-clause-known : goal.find_fewest-requires-clause-known
-find_fewest-requires-clause-known c = (beginning c.In_ok-first).known
+find_fewest-requires-clause-known c =
+    let i = instance c.args.net.now c.args.problem.now in
+    (exact_beginning_of booked_paths_are_one_list i c.deref-2.result.now c.in_ok-first.first (c.deref-2.ensures.value ∙ c.in_ok-flow.ensures) c.requires.valid c.in_ok-first.ensures).known
 
 -- what is known when the searches have ended
 facts : (c : After-solved_by) → IsSolvedBy c.args.settings.now.nodes Exact (instance c.args.net.now c.args.problem.now) c.in_ok-antichain.antichain c.in_ok-finding.finding
 facts c =
     let i = instance c.args.net.now c.args.problem.now in
     let es = c.in_ok-antichain.antichain in
-    solved_facts c.args.settings.now.nodes Exact i es c.in_ok-first.first c.in_ok-finding.finding tt c.requires.valid (beginning c.In_ok-first) c.in_ok-antichain.ensures.width c.in_ok-antichain.ensures.antichain
+    solved_facts c.args.settings.now.nodes Exact i es c.in_ok-first.first c.in_ok-finding.finding tt c.requires.valid
+    (exact_beginning_of booked_paths_are_one_list i c.deref-2.result.now c.in_ok-first.first (c.deref-2.ensures.value ∙ c.in_ok-flow.ensures) c.requires.valid c.in_ok-first.ensures)
+    c.in_ok-antichain.ensures.width c.in_ok-antichain.ensures.antichain
     (rising_edges i.graph _ es (omega (arith, c.len.ensures)) c.in_ok-antichain.ensures.antichain c.in_ok-antichain.ensures.rising)
     (subst (λ n. FindsAs c.args.settings.now.nodes i n c.in_ok-finding.finding) c.len.ensures c.in_ok-finding.ensures.finds) c.in_ok-finding.ensures.fewer (λ ranges. absurd ranges)
 
 pub returns-clause-found : goal.returns-clause-found
 returns-clause-found c =
-    c.solved_by.ensures.found c.args.settings.now.nodes Exact (instance c.args.net.now c.args.problem.now) (facts c.After-solved_by)
+    c.solved_by.ensures.found c.args.settings.now.nodes Exact (instance c.args.net.now c.args.problem.now) (facts (goal.at.returns-clause-found c).After-solved_by)
     (listed_rising c.args.net.now (slice_index c.deref.result.now) c.in_ok-safe.safe c.in_ok-safe.ensures.maximal c.in_ok-safe.ensures.few)
 
 pub returns-clause-right : goal.returns-clause-right
@@ -63,4 +59,4 @@ returns-clause-right c =
     let set = c.args.settings.now in
     let maximal = subst (λ (ws : List ℕ). IfSome c.in_ok-safe.safe (AreMaximal (IsSafeFor i.graph (slice_index ws)))) (c.deref.ensures.value ∙ c.in_ok-flow.ensures) c.in_ok-safe.ensures.maximal in
     c.solved_by.ensures.right set i (subst CountsPaths (sym c.requires.exact) tt) (c.in_ok-safe.ensures.asked, listed_safe i c.in_ok-safe.safe c.requires.valid maximal)
-    (subst (λ m. IsSolvedBy set.nodes m i c.in_ok-antichain.antichain c.in_ok-finding.finding) (sym c.requires.exact) (facts c.After-solved_by))
+    (subst (λ m. IsSolvedBy set.nodes m i c.in_ok-antichain.antichain c.in_ok-finding.finding) (sym c.requires.exact) (facts (goal.at.returns-clause-right c).After-solved_by))

@@ -45,21 +45,21 @@ some_within c =
 pub answer_over-requires-clause-small : goal.answer_over-requires-clause-small
 answer_over-requires-clause-small c =
     let i = instance c.args.net.now c.args.problem.now in
-    let has = room c.After-as_slice-in-Some in
+    let has = room (goal.at.answer_over-requires-clause-small c).After-as_slice-in-Some in
     flow_small Interval i c.as_slice-in-Some.result.now c.requires.valid has.within.0 (flow_in i c.as_slice-in-Some.result.now has.within)
 
 pub returns-in-Some : goal.returns-in-Some
 returns-in-Some c =
     let i = instance c.args.net.now c.args.problem.now in
     let flow = c.as_slice-in-Some.result.now in
-    let has = room c.After-as_slice-in-Some in
+    let has = room (goal.at.returns-in-Some c).After-as_slice-in-Some in
     let told = c.in_ok-first-in-Some.ensures in
     let is = c.deref.ensures.value ∙ c.in_ok-guide.ensures in
     (
       interval_known built_on_booked_is_first i flow c.in_ok-booked.booked c.in_ok-first-in-Some.first c.requires.valid has.within.0 (flow_in i flow has.within)
       (subst (λ (ws : List ℕ). AreBooked i.graph (slice_index ws) i.rules c.in_ok-booked.booked) is c.in_ok-booked.ensures.booked) c.in_ok-booked.ensures.covers c.in_ok-booked.ensures.few
       told.sums told.order told.few told.keeps told.built,
-      some_within c.In-Flow,
+      some_within (goal.at.returns-in-Some c).In-Flow,
     )
 
 pub returns : goal.returns
@@ -71,5 +71,5 @@ returns c =
       interval_unknown booked_paths_are_one_list i booked c.requires.valid
       (subst (λ (ws : List ℕ). AreBooked i.graph (slice_index ws) i.rules booked) is c.in_ok-booked.ensures.booked)
       (subst (λ found. MatchOption found (HasNoRoomFor i.graph i.ranges booked) (HasRoomFor i.graph i.ranges booked)) c.in-None.is c.in_ok-flow-2.ensures),
-      some_within c.In-Flow,
+      some_within (goal.at.returns c).In-Flow,
     )

@@ -1,0 +1,52 @@
+-- The problem stands for the instance of the graph, in each model.
+use Rattle.std.proofs.Common.{◌≡◌, ◌≤◌, List, length, ap, sym, subst, arith}
+use Rattle.std.specs.Prelude.{IfOk}
+use Rattle.decomposition.specs.declared.Mode.{Mode}
+use Rattle.decomposition.specs.declared.Mode.TheVariants.{Exact, Interval, Abs}
+use Rattle.decomposition.specs.Instance.{Instance, IsInstance}
+use Rattle.flow_models.specs.Problem.{instance}
+use Rattle.graph_text.specs.Reading.{instance_of}
+use Rattle.path_report.proofs.Lawful.{found_is_regular}
+use Rattle.flowpaths_cli.specs.Right.{SolvedRight}
+use Rattle.flowpaths_cli.proofs.Problems.{if_ok, problem_is}
+use Rattle.flowpaths_cli.proofs.solving.solve_block.Goals as goal
+
+-- the problem stands for the instance of the graph
+same : (c : goal.In_ok-problem) → instance c.args.graph.now.net c.in_ok-problem.problem ≡ instance_of c.args.graph.now
+same c = problem_is c.args.graph.now c.in_ok-problem.problem c.requires.valid.instance.distinct c.in_ok-problem.ensures.ranges c.in_ok-problem.ensures.rules
+
+pub solve_exact-requires-clause-valid : goal.solve_exact-requires-clause-valid
+solve_exact-requires-clause-valid c = ?
+
+pub solve_exact-requires-clause-few_rules : goal.solve_exact-requires-clause-few_rules
+solve_exact-requires-clause-few_rules c = ?
+
+pub solve_interval-requires-clause-few_rules : goal.solve_interval-requires-clause-few_rules
+solve_interval-requires-clause-few_rules c = ?
+
+pub solve_least_error-requires-clause-few_rules : goal.solve_least_error-requires-clause-few_rules
+solve_least_error-requires-clause-few_rules c = ?
+
+pub returns-in-Exact-clause-regular : goal.returns-in-Exact-clause-regular
+returns-in-Exact-clause-regular c =
+    let graph = c.args.graph.now in
+    if_ok c.solve_exact.result (λ solved found. found_is_regular graph.net graph.labels solved (sym c.requires.valid.edges) (sym c.requires.valid.vertices) found) c.solve_exact.ensures.found
+
+pub returns-in-Exact-clause-right : goal.returns-in-Exact-clause-right
+returns-in-Exact-clause-right c = ?
+
+pub returns-in-Interval-clause-regular : goal.returns-in-Interval-clause-regular
+returns-in-Interval-clause-regular c =
+    let graph = c.args.graph.now in
+    if_ok c.solve_interval.result (λ solved found. found_is_regular graph.net graph.labels solved (sym c.requires.valid.edges) (sym c.requires.valid.vertices) found) c.solve_interval.ensures.found
+
+pub returns-in-Interval-clause-right : goal.returns-in-Interval-clause-right
+returns-in-Interval-clause-right c = ?
+
+pub returns-clause-regular : goal.returns-clause-regular
+returns-clause-regular c =
+    let graph = c.args.graph.now in
+    if_ok c.solve_least_error.result (λ solved found. found_is_regular graph.net graph.labels solved (sym c.requires.valid.edges) (sym c.requires.valid.vertices) found) c.solve_least_error.ensures.found
+
+pub returns-clause-right : goal.returns-clause-right
+returns-clause-right c = ?
