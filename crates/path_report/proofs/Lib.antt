@@ -20,3 +20,10 @@ pub mod ReadSoFar
 pub mod Extending
 pub mod ReadingOn
 pub mod Soundness
+pub mod GoodFields
+pub mod Written
+pub mod WrittenNames
+pub mod Goes
+pub mod WrittenLines
+pub mod WrittenCerts
+pub mod Complete

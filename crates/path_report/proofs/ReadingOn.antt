@@ -28,7 +28,7 @@ last_line text h =
     slice_split_none (λ b. b == 10) text (λ k d within. fails_before_first (λ b. b == 10) text k d (omega (arith, all)))
 
 -- there is always a line
-some_line : (text : List ℕ) → 0 < length (text_lines text)
+pub some_line : (text : List ℕ) → 0 < length (text_lines text)
 some_line text = omega (arith, length-slice_split (λ b. b == 10) text)
 
 pub read_from-cons : (labels : LabelLists) (l : List ℕ) (lines : List (List ℕ)) (n : ℕ) (d : Draft) → 0 < length lines →

@@ -14,13 +14,13 @@ use Rattle.path_report.specs.ReportText.{number_or_none, fits_or_none, is_place}
 use Rattle.path_report.specs.LineFields.{begins_with_zero, greatest, number_in, limit_in, place_in, decision_in}
 use Rattle.path_report.proofs.Taken.{cond-some, map-some, and_then-some}
 
-abbrev digits_only : List ℕ → Bool
+abbrev pub digits_only : List ℕ → Bool
 digits_only bytes = list_all (λ b. nat_le 48 b && nat_le b 57) bytes
 
-abbrev value_from : ℕ → List ℕ → ℕ
+abbrev pub value_from : ℕ → List ℕ → ℕ
 value_from n digits = fold (λ n d. 10 * n + (d - 48)) n digits
 
-own : IsNumeralModel (λ ds. digits_only ds ≡ true) (value_from 0)
+pub own : IsNumeralModel (λ ds. digits_only ds ≡ true) (value_from 0)
 own = numerals_by_fold (λ ds. digits_only ds ≡ true) (search rules) value_from (search rules)
 
 -- a field without a leading zero, that begins with a zero, is that zero

@@ -7,3 +7,4 @@ pub mod LineFields
 pub mod LineSteps
 pub mod ListSteps
 pub mod BadLines
+pub mod ReaderLaws
