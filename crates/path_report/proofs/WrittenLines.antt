@@ -9,7 +9,7 @@ use Rattle.decomposition.specs.Graph.{is_run}
 use Rattle.decomposition.specs.Answer.{comes_before, is_ordered}
 use Rattle.graph_text.specs.declared.refusal.Refusal.{Refusal}
 use Rattle.graph_text.specs.declared.refusal.Why.{Why}
-use Rattle.graph_text.specs.declared.refusal.Why.TheVariants.{Later, LongLine, BadCount, BadFields, BadWeight, BadRange, RepeatedEdge, TooManyEdges, Cycle, Unconserved}
+use Rattle.graph_text.specs.declared.refusal.Why.TheVariants.{LongLine, BadCount, BadFields, BadWeight, BadRange, RepeatedEdge, TooManyEdges, TooManyConstraints, ShortConstraint, Cycle, UnknownEdge, Unconserved}
 use Rattle.graph_text.specs.Labels.{LabelLists, AreLabels, is_field}
 use Rattle.path_report.specs.declared.report.Mark.{Mark}
 use Rattle.path_report.specs.declared.report.Mark.TheVariants.{Optimal, Infeasible, Bounds}
@@ -63,7 +63,6 @@ record WhyWritten (w : Why) : Type 0 where
   told : why_in (why_word w) ≡ Some w
 
 why-written : (w : Why) → WhyWritten w
-why-written Later = record { good = refl; told = refl }
 why-written LongLine = record { good = refl; told = refl }
 why-written BadCount = record { good = refl; told = refl }
 why-written BadFields = record { good = refl; told = refl }
@@ -71,7 +70,10 @@ why-written BadWeight = record { good = refl; told = refl }
 why-written BadRange = record { good = refl; told = refl }
 why-written RepeatedEdge = record { good = refl; told = refl }
 why-written TooManyEdges = record { good = refl; told = refl }
+why-written TooManyConstraints = record { good = refl; told = refl }
+why-written ShortConstraint = record { good = refl; told = refl }
 why-written Cycle = record { good = refl; told = refl }
+why-written UnknownEdge = record { good = refl; told = refl }
 why-written Unconserved = record { good = refl; told = refl }
 
 pub goes-refused : (labels : LabelLists) (d : Draft) (r : Refusal) → d.place ≡ Third → (nat_le 1 r.line && fits r.line) ≡ true →
