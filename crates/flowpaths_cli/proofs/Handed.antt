@@ -14,7 +14,7 @@ use Rattle.graph_text.specs.declared.block.RawGraph.{RawGraph}
 use Rattle.graph_text.specs.declared.refusal.Refusal.{Refusal}
 use Rattle.graph_text.proofs.Accepting.{graphs_are_accepted}
 use Rattle.graph_text.proofs.RefusedLines.{refusal-line}
-use Rattle.path_report.specs.ReportText.{is_regular, is_regular_body, is_name, fits}
+use Rattle.path_report.specs.ReportText.{is_mode, is_regular, is_regular_body, is_name, fits}
 use Rattle.path_report.specs.declared.report.Body.{Body}
 use Rattle.path_report.proofs.BlockNames.{is_name-name_of}
 use Rattle.flowpaths_cli.specs.Reporting.{IsHandedFor}
@@ -28,18 +28,6 @@ pub handed-accepted : (mode : Mode) (text : TextBlock) (block : Block) → IsHan
 handed-accepted mode text block h =
     let P : Block → Type 0 = λ b. IfOk b.body (IsAccepted mode) in
     let here : P (handed mode text) = on_ok (read mode text) (IsAccepted mode) (λ graph e. graphs_are_accepted mode text graph h.is_block.no_feeds e) in
-    subst P h.is_handed here
-
-none_or : (o : Option Refusal) (graph : RawGraph) → graph.runs ≡ [] → IfOk (err_or o graph) (λ g. g.runs ≡ [])
-none_or None graph none = none
-none_or (Some r) graph none = tt
-
--- no constraint is read yet
-pub handed-no_runs : (mode : Mode) (text : TextBlock) (block : Block) → IsHandedFor mode text block → IfOk block.body (λ graph. graph.runs ≡ [])
-handed-no_runs mode text block h =
-    let P : Block → Type 0 = λ b. IfOk b.body (λ graph. graph.runs ≡ []) in
-    let lines = numbered_lines text.line text.lines in
-    let here : P (handed mode text) = none_or (refusal_of mode lines (raw_graph_of mode lines)) (raw_graph_of mode lines) refl in
     subst P h.is_handed here
 
 pub handed-refusal : (mode : Mode) (text : TextBlock) (block : Block) → IsHandedFor mode text block → IfErr block.body (λ r. 1 ≤ r.line)
@@ -61,13 +49,12 @@ handed-name mode text block h =
     subst P h.is_handed here
 
 -- the report on it is regular
-pub handed-regular : (mode : Mode) (text : TextBlock) (block : Block) (labels : LabelLists) (body : Body) → mode ≡ Exact → IsHandedFor mode text block →
+pub handed-regular : (mode : Mode) (text : TextBlock) (block : Block) (labels : LabelLists) (body : Body) → IsTrue (is_mode mode) → IsHandedFor mode text block →
     block.index < 2 ^ 64 → IsTrue (is_regular_body labels body) →
     IsTrue (is_regular labels (record { index = block.index; name = block.name; mode = mode; body = body }))
-handed-regular mode text block labels body exact h small regular =
-    let P : Mode → Type 0 = λ m. IsTrue (is_regular labels (record { index = block.index; name = block.name; mode = m; body = body })) in
+handed-regular mode text block labels body known h small regular =
     let index : IsTrue (nat_le 1 block.index && fits block.index) =
     and_from (nat_le 1 block.index) (fits block.index) (le-leb 1 block.index (handed-index mode text block h)) (lt-ltb block.index (2 ^ 64) small) in
-    let here : P Exact = and_from (nat_le 1 block.index && fits block.index) (is_name block.name && is_regular_body labels body) index
-    (and_from (is_name block.name) (is_regular_body labels body) (handed-name mode text block h) regular) in
-    subst P (sym exact) here
+    and_from (nat_le 1 block.index && fits block.index) (is_name block.name && (is_mode mode && is_regular_body labels body)) index
+    (and_from (is_name block.name) (is_mode mode && is_regular_body labels body) (handed-name mode text block h)
+    (and_from (is_mode mode) (is_regular_body labels body) known regular))

@@ -19,13 +19,13 @@ returns-in-Cut-clause-right c =
     (right_by_cut c.args.settings.now i c.in-Cut.side c.in-Cut.vertices c.requires.interval (not_safe c.args.settings.now Interval c.requires.built c.requires.interval (λ e. let no' : ⊥ = cc in no')) c.requires.valid within.0)
 
 -- what is known when the searches have ended
-facts : (c : In_ok-finding-in-First) → IsSolvedBy c.args.settings.now.nodes Interval (instance c.args.net.now c.args.problem.now) c.in_ok-antichain.antichain c.in_ok-finding-in-First.finding
+facts : (c : In_ok-finding-in-First) → IsSolvedBy c.args.settings.now.nodes Interval (instance c.args.net.now c.args.problem.now) c.in_ok-antichain-in-First.antichain c.in_ok-finding-in-First.finding
 facts c =
     let i = instance c.args.net.now c.args.problem.now in
-    let es = c.in_ok-antichain.antichain in
+    let es = c.in_ok-antichain-in-First.antichain in
     let within = subst (IsWithin i) c.in-First.is c.in_ok-side.ensures in
-    solved_facts c.args.settings.now.nodes Interval i es c.in-First.first c.in_ok-finding-in-First.finding tt c.requires.valid within.0 c.in_ok-antichain.ensures.width c.in_ok-antichain.ensures.antichain
-    (rising_edges i.graph _ es (omega (arith, c.len.ensures)) c.in_ok-antichain.ensures.antichain c.in_ok-antichain.ensures.rising)
+    solved_facts c.args.settings.now.nodes Interval i es c.in-First.first c.in_ok-finding-in-First.finding tt c.requires.valid within.0 c.in_ok-antichain-in-First.ensures.width c.in_ok-antichain-in-First.ensures.antichain
+    (rising_edges i.graph _ es (omega (arith, c.len.ensures)) c.in_ok-antichain-in-First.ensures.antichain c.in_ok-antichain-in-First.ensures.rising)
     (subst (λ n. FindsAs c.args.settings.now.nodes i n c.in_ok-finding-in-First.finding) c.len.ensures c.in_ok-finding-in-First.ensures.finds) c.in_ok-finding-in-First.ensures.fewer (λ ranges. within.1)
 
 pub returns-in_ok-finding-in-First-clause-found : goal.returns-in_ok-finding-in-First-clause-found
@@ -38,4 +38,4 @@ returns-in_ok-finding-in-First-clause-right c =
     let set = c.args.settings.now in
     let unsafe = not_safe set Interval c.requires.built c.requires.interval (λ e. let no' : ⊥ = cc in no') in
     c.solved_by.ensures.right set i (subst CountsPaths (sym c.requires.interval) tt) (sym unsafe, tt)
-    (subst (λ m. IsSolvedBy set.nodes m i c.in_ok-antichain.antichain c.in_ok-finding-in-First.finding) (sym c.requires.interval) (facts (goal.at.returns-in_ok-finding-in-First-clause-right c).In_ok-finding-in-First))
+    (subst (λ m. IsSolvedBy set.nodes m i c.in_ok-antichain-in-First.antichain c.in_ok-finding-in-First.finding) (sym c.requires.interval) (facts (goal.at.returns-in_ok-finding-in-First-clause-right c).In_ok-finding-in-First))

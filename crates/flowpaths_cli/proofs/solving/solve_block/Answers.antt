@@ -1,8 +1,7 @@
 -- The problem stands for the instance of the graph, in each model.
-use Rattle.std.proofs.Common.{◌≡◌, ◌≤◌, List, length, ap, sym, subst, arith}
+use Rattle.std.proofs.Common.{◌≡◌, List, length, ap, sym, subst, arith}
 use Rattle.std.specs.Prelude.{IfOk}
 use Rattle.decomposition.specs.declared.Mode.{Mode}
-use Rattle.decomposition.specs.declared.Mode.TheVariants.{Exact, Interval, Abs}
 use Rattle.decomposition.specs.Instance.{Instance, IsInstance}
 use Rattle.flow_models.specs.Problem.{instance}
 use Rattle.graph_text.specs.Reading.{instance_of}
@@ -11,21 +10,29 @@ use Rattle.flowpaths_cli.specs.Right.{SolvedRight}
 use Rattle.flowpaths_cli.proofs.Problems.{if_ok, problem_is}
 use Rattle.flowpaths_cli.proofs.solving.solve_block.Goals as goal
 
--- the problem stands for the instance of the graph
-same : (c : goal.In_ok-problem) → instance c.args.graph.now.net c.in_ok-problem.problem ≡ instance_of c.args.graph.now
-same c = problem_is c.args.graph.now c.in_ok-problem.problem c.requires.valid.instance.distinct c.in_ok-problem.ensures.ranges c.in_ok-problem.ensures.rules
-
 pub solve_exact-requires-clause-valid : goal.solve_exact-requires-clause-valid
-solve_exact-requires-clause-valid c = ?
+solve_exact-requires-clause-valid c =
+    let graph = c.args.graph.now in
+    let same : instance graph.net c.in_ok-problem.problem ≡ instance_of graph = problem_is graph c.in_ok-problem.problem c.requires.valid.instance.distinct c.in_ok-problem.ensures.ranges c.in_ok-problem.ensures.rules in
+    subst (λ (m : Mode). IsInstance m (instance graph.net c.in_ok-problem.problem)) c.in-Exact.is (subst (IsInstance c.args.settings.now.mode) (sym same) c.requires.valid.instance)
 
 pub solve_exact-requires-clause-few_rules : goal.solve_exact-requires-clause-few_rules
-solve_exact-requires-clause-few_rules c = ?
+solve_exact-requires-clause-few_rules c =
+    let graph = c.args.graph.now in
+    let same : instance graph.net c.in_ok-problem.problem ≡ instance_of graph = problem_is graph c.in_ok-problem.problem c.requires.valid.instance.distinct c.in_ok-problem.ensures.ranges c.in_ok-problem.ensures.rules in
+    omega (arith, ap (λ (j : Instance). length j.rules) same, c.requires.valid.few_runs)
 
 pub solve_interval-requires-clause-few_rules : goal.solve_interval-requires-clause-few_rules
-solve_interval-requires-clause-few_rules c = ?
+solve_interval-requires-clause-few_rules c =
+    let graph = c.args.graph.now in
+    let same : instance graph.net c.in_ok-problem.problem ≡ instance_of graph = problem_is graph c.in_ok-problem.problem c.requires.valid.instance.distinct c.in_ok-problem.ensures.ranges c.in_ok-problem.ensures.rules in
+    omega (arith, ap (λ (j : Instance). length j.rules) same, c.requires.valid.few_runs)
 
 pub solve_least_error-requires-clause-few_rules : goal.solve_least_error-requires-clause-few_rules
-solve_least_error-requires-clause-few_rules c = ?
+solve_least_error-requires-clause-few_rules c =
+    let graph = c.args.graph.now in
+    let same : instance graph.net c.in_ok-problem.problem ≡ instance_of graph = problem_is graph c.in_ok-problem.problem c.requires.valid.instance.distinct c.in_ok-problem.ensures.ranges c.in_ok-problem.ensures.rules in
+    omega (arith, ap (λ (j : Instance). length j.rules) same, c.requires.valid.few_runs)
 
 pub returns-in-Exact-clause-regular : goal.returns-in-Exact-clause-regular
 returns-in-Exact-clause-regular c =
@@ -33,7 +40,10 @@ returns-in-Exact-clause-regular c =
     if_ok c.solve_exact.result (λ solved found. found_is_regular graph.net graph.labels solved (sym c.requires.valid.edges) (sym c.requires.valid.vertices) found) c.solve_exact.ensures.found
 
 pub returns-in-Exact-clause-right : goal.returns-in-Exact-clause-right
-returns-in-Exact-clause-right c = ?
+returns-in-Exact-clause-right c =
+    let graph = c.args.graph.now in
+    let same : instance graph.net c.in_ok-problem.problem ≡ instance_of graph = problem_is graph c.in_ok-problem.problem c.requires.valid.instance.distinct c.in_ok-problem.ensures.ranges c.in_ok-problem.ensures.rules in
+    subst (λ j. IfOk c.solve_exact.result (SolvedRight c.args.settings.now j)) same c.solve_exact.ensures.right
 
 pub returns-in-Interval-clause-regular : goal.returns-in-Interval-clause-regular
 returns-in-Interval-clause-regular c =
@@ -41,7 +51,10 @@ returns-in-Interval-clause-regular c =
     if_ok c.solve_interval.result (λ solved found. found_is_regular graph.net graph.labels solved (sym c.requires.valid.edges) (sym c.requires.valid.vertices) found) c.solve_interval.ensures.found
 
 pub returns-in-Interval-clause-right : goal.returns-in-Interval-clause-right
-returns-in-Interval-clause-right c = ?
+returns-in-Interval-clause-right c =
+    let graph = c.args.graph.now in
+    let same : instance graph.net c.in_ok-problem.problem ≡ instance_of graph = problem_is graph c.in_ok-problem.problem c.requires.valid.instance.distinct c.in_ok-problem.ensures.ranges c.in_ok-problem.ensures.rules in
+    subst (λ j. IfOk c.solve_interval.result (SolvedRight c.args.settings.now j)) same c.solve_interval.ensures.right
 
 pub returns-clause-regular : goal.returns-clause-regular
 returns-clause-regular c =
@@ -49,4 +62,7 @@ returns-clause-regular c =
     if_ok c.solve_least_error.result (λ solved found. found_is_regular graph.net graph.labels solved (sym c.requires.valid.edges) (sym c.requires.valid.vertices) found) c.solve_least_error.ensures.found
 
 pub returns-clause-right : goal.returns-clause-right
-returns-clause-right c = ?
+returns-clause-right c =
+    let graph = c.args.graph.now in
+    let same : instance graph.net c.in_ok-problem.problem ≡ instance_of graph = problem_is graph c.in_ok-problem.problem c.requires.valid.instance.distinct c.in_ok-problem.ensures.ranges c.in_ok-problem.ensures.rules in
+    subst (λ j. IfOk c.solve_least_error.result (SolvedRight c.args.settings.now j)) same c.solve_least_error.ensures.right
