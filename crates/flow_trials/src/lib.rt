@@ -14,10 +14,14 @@ mod fronts;
 #[cfg(test)]
 mod problems;
 #[cfg(test)]
+mod reports;
+#[cfg(test)]
 mod rows;
 mod runs;
 #[cfg(test)]
 mod safe;
+#[cfg(test)]
+mod said;
 #[cfg(test)]
 mod searches;
 #[cfg(test)]
