@@ -1,7 +1,8 @@
 //! Cuts and crowds, and lists that are none.
 
-ghost use Rattle.std.specs.Prelude.{◌≡◌, length, IfOk, IsTrue};
-ghost use Rattle.std.specs.List.{list_all};
+ghost use Rattle.std.specs.Prelude.{◌≡◌, ◌==◌, length, IfOk, IsTrue};
+ghost use Rattle.std.specs.List.{list_all, IsDistinct};
+ghost use Rattle.std.specs.Cmp.Lexicographic.{pointwise};
 ghost use Rattle.decomposition.specs.Graph.{edge_count, is_run};
 ghost use Rattle.decomposition.specs.Instance.{greatest_hi};
 
@@ -38,6 +39,7 @@ pub fn ruled_problem(
 ) -> Result<Problem, Fail>
     ensures ranged { IfOk result (λ p. length p.ranges ≡ edge_count net.now) }
     ensures rules { IfOk result (λ p. IsTrue (list_all (is_run net.now) p.rules)) }
+    ensures distinct { IfOk result (λ p. IsDistinct (pointwise (λ d e. d == e)) p.rules) }
     ensures cap { IfOk result (λ p. p.cap ≡ greatest_hi p.ranges) }
 {
     let plain = problem(alloc, net, bounds)?;

@@ -22,10 +22,14 @@ mod problems;
 #[cfg(test)]
 mod readings;
 #[cfg(test)]
+mod reports;
+#[cfg(test)]
 mod rows;
 mod runs;
 #[cfg(test)]
 mod safe;
+#[cfg(test)]
+mod said;
 #[cfg(test)]
 mod searches;
 #[cfg(test)]
