@@ -1,5 +1,5 @@
 -- Where the searches for few paths begin: at a first answer, or at none where the booked paths do not fit.
-use Rattle.std.proofs.Common.{◌≡◌, ◌==◌, ℕ, ◌+◌, ◌≤◌, ◌<◌, List, [], ◌∷◌, Option, Some, None, true, ◌&&◌, cond, length, get_or, refl, sym, ap, ap₂, subst, ◌∙◌, arith, eqb-true}
+use Rattle.std.proofs.Common.{◌≡◌, ◌==◌, ℕ, ◌+◌, ◌≤◌, ◌<◌, List, [], ◌∷◌, Option, Some, None, true, cond, length, refl, sym, ap, ap₂, subst, ◌∙◌, arith, eqb-true}
 use Rattle.std.specs.Prelude.{All, IfSome, IsSomeAnd, slice_index}
 use Rattle.std.specs.List.{list_all}
 use Rattle.std.proofs.lemmas.Grind.{get_or_default_zero, same_number_lists}
@@ -8,8 +8,8 @@ use Rattle.decomposition.specs.declared.Mode.{Mode}
 use Rattle.decomposition.specs.declared.Mode.TheVariants.{Exact, Interval, Abs}
 use Rattle.decomposition.specs.declared.Range.{Range}
 use Rattle.decomposition.specs.Graph.{Graph, IsNet, edge_count, head, tail}
-use Rattle.decomposition.specs.Answer.{Covers, IsAnswer, IsInReportOrder, weight_on}
-use Rattle.decomposition.specs.FirstAnswer.{BookingFits, IsBooked, IsFirstAnswer, with_unit}
+use Rattle.decomposition.specs.Answer.{Covers, IsInReportOrder, weight_on}
+use Rattle.decomposition.specs.FirstAnswer.{with_unit}
 use Rattle.decomposition.specs.Flow.{Decomposes, IsBalanced}
 use Rattle.decomposition.specs.Instance.{FitsModel, Instance, IsFlowWithin, IsInstance, distance, error, lower_bound, range, range_at}
 use Rattle.decomposition.proofs.Excess.{error-from_decomposes}
@@ -19,10 +19,10 @@ use Rattle.decomposition.proofs.Sums.{sum_below-nil, sum_below-same}
 use Rattle.greedy_paths.specs.Booking.{AreBooked}
 use Rattle.greedy_paths.specs.Built.{IsBuiltOn}
 use Rattle.greedy_paths.specs.Laws.{BookedPathsAreOneList, BuiltOnBookedIsFirst}
-use Rattle.flowpaths_cli.specs.Booking.{AreBookedFor, BookedFit, IsAtMostFirst, IsKnownWhereBookedFit, MakesRoom, upper_bound}
-use Rattle.flowpaths_cli.specs.Firsts.{HasNoRoom, IsBeginning, IsFirst, IsFirstOfFlow, count_known}
+use Rattle.flowpaths_cli.specs.Booking.{IsAtMostFirst, IsKnownWhereBookedFit, upper_bound}
+use Rattle.flowpaths_cli.specs.Firsts.{IsBeginning, IsFirstOfFlow, count_known}
 use Rattle.flowpaths_cli.specs.Right.{CountsPaths, NothingIsWithin}
-use Rattle.flowpaths_cli.specs.Room.{HasNoRoomFor, IsFlowIn, ranged}
+use Rattle.flowpaths_cli.specs.Room.{HasNoRoomFor, IsFlowIn}
 use Rattle.flowpaths_cli.proofs.Bounded.{bounds, highs, highs-at, lows, lows-at, within_small}
 
 -- where both bounds of each edge are equal, the lower bounds are the upper ones

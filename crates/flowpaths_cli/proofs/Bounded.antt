@@ -10,7 +10,7 @@ use Rattle.decomposition.specs.declared.Mode.{Mode}
 use Rattle.decomposition.specs.declared.Range.{Range}
 use Rattle.decomposition.specs.Graph.{Graph, IsPath, is_path, edge_count, tail, has_edge}
 use Rattle.decomposition.specs.Answer.{IsAnswer, weight_on, sum_below}
-use Rattle.decomposition.specs.Instance.{Instance, IsInstance, cap, distance, error, greatest_hi, lower_bound, range, range_at}
+use Rattle.decomposition.specs.Instance.{Instance, IsInstance, cap, distance, error, greatest_hi, range, range_at}
 use Rattle.decomposition.proofs.Cuts.{within}
 use Rattle.decomposition.proofs.Members.{any-here}
 use Rattle.decomposition.proofs.Merging.{weight_on-where}

@@ -1,5 +1,5 @@
 -- What was found for a graph whose paths are counted is right for it: by the width, by a refutation, by bounds, or that nothing meets.
-use Rattle.std.proofs.Common.{◌≡◌, ℕ, ◌≤◌, ◌<◌, List, [], Option, Some, None, true, false, length, refl, sym, subst, ◌∙◌, arith, true≢false}
+use Rattle.std.proofs.Common.{◌≡◌, ℕ, ◌≤◌, ◌<◌, List, [], Option, Some, None, false, length, refl, sym, subst, ◌∙◌, arith, true≢false}
 use Rattle.std.specs.Prelude.{IfSome}
 use Rattle.decomposition.specs.declared.Mode.{Mode}
 use Rattle.decomposition.specs.declared.Mode.TheVariants.{Exact, Interval, Abs}

@@ -1,14 +1,13 @@
 -- What holds of a block that is handed out for a block of a text.
-use Rattle.std.proofs.Common.{◌≡◌, ◌≤◌, ◌<◌, ◌^◌, ◌&&◌, [], Option, Some, None, Result, Ok, Err, IsTrue, refl, sym, subst}
+use Rattle.std.proofs.Common.{◌≡◌, ◌≤◌, ◌<◌, ◌^◌, ◌&&◌, Result, Ok, Err, IsTrue, refl, subst}
 use Rattle.std.specs.Prelude.{IfOk, IfErr, nat_le}
 use Rattle.std.proofs.lemmas.Bool.{and_from, le-leb, lt-ltb}
 use Rattle.decomposition.specs.declared.Mode.{Mode}
-use Rattle.decomposition.specs.declared.Mode.TheVariants.{Exact}
 use Rattle.graph_text.specs.Blocks.{TextBlock}
 use Rattle.graph_text.specs.Accepted.{IsAccepted}
 use Rattle.graph_text.specs.Labels.{LabelLists}
 use Rattle.graph_text.specs.Reader.{handed}
-use Rattle.graph_text.specs.Reading.{read, numbered_lines, raw_graph_of, refusal_of, err_or}
+use Rattle.graph_text.specs.Reading.{read}
 use Rattle.graph_text.specs.declared.block.Block.{Block}
 use Rattle.graph_text.specs.declared.block.RawGraph.{RawGraph}
 use Rattle.graph_text.specs.declared.refusal.Refusal.{Refusal}

@@ -1,5 +1,5 @@
 -- What is said of a graph whose weights have errors is right.
-use Rattle.std.proofs.Common.{◌≡◌, ℕ, ◌≤◌, ◌<◌, ◌^◌, List, [], Option, Some, None, false, length, refl, sym, subst, arith}
+use Rattle.std.proofs.Common.{◌≡◌, ℕ, List, [], Option, Some, None, false, refl, sym, subst, arith}
 use Rattle.decomposition.specs.declared.Mode.TheVariants.{Abs}
 use Rattle.decomposition.specs.Instance.{Instance, IsInstance}
 use Rattle.decomposition.proofs.FewPaths.{trees_refute_all}

@@ -65,11 +65,14 @@ raised-bounded ranges units raised bounded are =
 pub raised-room : (g : Graph) (ranges raised : List Range) (units : List ℕ) (booked : List (List ℕ × ℕ)) (flow : List ℕ) → length ranges ≡ edge_count g → AreUnits g booked units → AreRaised ranges units raised
     → IsFlowIn g raised flow → HasRoomFor g ranges booked flow
 raised-room g ranges raised units booked flow one_each counts are (long, f) = record {
-  within = (long, record {
-    balanced = f.balanced;
-    low = λ e inside. omega (arith, f.low e inside, are.low e (omega (arith, inside, one_each)));
-    high = λ e inside. omega (arith, f.high e inside, are.high e (omega (arith, inside, one_each)));
-  });
+  within = (
+    long,
+    record {
+      balanced = f.balanced;
+      low = λ e inside. omega (arith, f.low e inside, are.low e (omega (arith, inside, one_each)));
+      high = λ e inside. omega (arith, f.high e inside, are.high e (omega (arith, inside, one_each)));
+    },
+  );
   units = λ e inside. omega (arith, f.low e inside, are.low e (omega (arith, inside, one_each)), counts.each e inside);
 }
 

@@ -114,9 +114,9 @@ right_by_cut s i side xs mode unsafe valid cut =
     let none : NothingIsWithin i = λ a answer zero_error. cuts_refute i side xs a valid.net cut answer zero_error in
     let first : IsAtMostFirst Interval i None
     = λ fits b is.
-        let made = flows_decompose i.graph (lower_bound i) valid.net fits.1 in
-        let exact : IsInstance Exact i = record { net = valid.net; ranged = valid.ranged; bounded = valid.bounded; runs = valid.runs; distinct = valid.distinct; fits = fits } in
-        none made.0 made.1.answer (error-from_decomposes i exact made.0 made.1) in
+    let made = flows_decompose i.graph (lower_bound i) valid.net fits.1 in
+    let exact : IsInstance Exact i = record { net = valid.net; ranged = valid.ranged; bounded = valid.bounded; runs = valid.runs; distinct = valid.distinct; fits = fits } in
+    none made.0 made.1.answer (error-from_decomposes i exact made.0 made.1) in
     let facts = counted_none Interval s.nodes i (Cut side xs) None first (λ no_upper booked books (a, room). none a room.answer room.within)
     (record { lower = refl; upper = refl; cert = (tt, cut); no_trail = refl }) (λ ranges. (λ is. none, λ nothing. refl)) (λ b ok. none b ok.0 ok.2) in
     subst (λ m. SolvedRight (record s { mode = m }) i (said Infeasible None None [] (Cut side xs) None None)) (sym mode) (right_for Interval s i _ tt facts (sym unsafe, tt))

@@ -1,5 +1,6 @@
 -- The settings of examples.
 use Rattle.std.specs.Prelude.{ℕ, List, true, false, Option, Some, None}
+use Rattle.decomposition.specs.declared.Mode.{Mode}
 use Rattle.decomposition.specs.declared.Mode.TheVariants.{Exact}
 use Rattle.flowpaths_cli.specs.declared.settings.Settings.{Settings}
 
@@ -10,3 +11,7 @@ naming nodes file = Some (record { mode = Exact; nodes = nodes; safe = false; de
 -- the same, with safe runs to be listed
 abbrev pub naming_safely : ℕ → List ℕ → Option Settings
 naming_safely nodes file = Some (record { mode = Exact; nodes = nodes; safe = true; demo = None; file = file })
+
+-- the settings with a model and a name
+abbrev pub naming_in : Mode → List ℕ → Option Settings
+naming_in mode file = Some (record { mode = mode; nodes = 20000; safe = false; demo = None; file = file })

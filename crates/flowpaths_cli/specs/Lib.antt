@@ -10,5 +10,6 @@ pub mod Searched
 pub mod Firsts
 pub mod Room
 pub mod Halved
+pub mod Crowds
 pub mod Run
 pub mod Reporting

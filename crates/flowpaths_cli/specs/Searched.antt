@@ -1,7 +1,7 @@
 -- What searches came to.
 use Rattle.std.specs.Prelude.{◌≡◌, ℕ, ◌+◌, ◌*◌, ◌≤◌, ◌<◌, ◌^◌, List, length, All, Option, Some, None}
 use Rattle.decomposition.specs.declared.Mode.{Mode}
-use Rattle.decomposition.specs.declared.Mode.TheVariants.{Exact, Interval, Abs}
+use Rattle.decomposition.specs.declared.Mode.TheVariants.{Interval}
 use Rattle.decomposition.specs.declared.Decision.{Decision}
 use Rattle.decomposition.specs.Graph.{edge_count}
 use Rattle.decomposition.specs.Answer.{IsAnswer, Covers, IsInReportOrder, weight_on}

@@ -17,19 +17,13 @@ use path_report::{Cert, Mark, Solved};
 use std::alloc::Global;
 
 /// What is said by an antichain of as many edges as the width and by what the searches found.
-pub fn solved_by(
-    alloc: Global,
-    finding: Finding,
-    antichain: Ids,
-    safe: Option<IdLists>,
-) -> Solved
+pub fn solved_by(alloc: Global, finding: Finding, antichain: Ids, safe: Option<IdLists>) -> Solved
     ensures right { (s : Given) (i : Instance) → CountsPaths s.mode → AreListed s i safe → IsSolvedBy s.nodes s.mode i antichain finding → SolvedRight s i result }
     ensures found { (nodes : ℕ) (mode : AMode) (i : Instance) → IsSolvedBy nodes mode i antichain finding → IfSome safe (AreRisingRuns i.graph) → IsFoundIn i.graph result }
 {
     match finding {
         Finding::Known { paths, ending } => known_by(paths, ending, antichain, safe),
-        Finding::Crowded { edge, rules } =>
-            without_answer(alloc, Cert::Crowd(edge, rules), safe),
+        Finding::Crowded { edge, rules } => without_answer(alloc, Cert::Crowd(edge, rules), safe),
         Finding::Never(tree) => without_answer(alloc, Cert::Tree(tree), safe),
         Finding::Open(trail) => Solved {
             mark: Mark::Bounds,

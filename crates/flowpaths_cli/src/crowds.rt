@@ -1,10 +1,11 @@
 //! Crowds: more rules through an edge than it can carry paths, no two of them on one path.
-ghost use Rattle.std.specs.Prelude.{◌≡◌, ◌<◌, All, length, IfOk, IfSome, IsTrue};
+ghost use Rattle.std.specs.Prelude.{◌≡◌, ◌+◌, ◌<◌, All, length, IfOk, IfSome, IsTrue, OnOk};
 ghost use Rattle.std.specs.List.{list_all};
 ghost use Rattle.decomposition.specs.Certificates.{IsCrowd};
 ghost use Rattle.decomposition.specs.Graph.{edge_count, is_run};
 ghost use Rattle.flow_models.specs.Problem.{instance};
 ghost use Rattle.path_report.specs.Laws.{AreRisingRules};
+ghost use Rattle.flowpaths_cli.specs.Crowds.{RisesBelow};
 
 use cert_check::check_crowd;
 use dag_net::{Ids, Net};
@@ -43,11 +44,29 @@ fn rules_apart(alloc: Global, net: &Net, rules: &Rules, edge: u32) -> Result<Ids
 {
     let mut apart = Ids::new(alloc);
     for rule in 0..rules.len() {
-        if rules.run(rule).contains(&edge) && goes_with_none(net, rules, rule, apart.as_slice()) {
-            apart.push(rule)?;
-        }
+        take_apart(net, rules, edge, rule, &mut apart)?;
     }
+    prove!(apart.len() <= usize::MAX);
     Ok(apart)
+}
+
+/// Takes a rule to those before it, if it goes through the edge and on no path with one of them.
+fn take_apart(
+    net: &Net,
+    rules: &Rules,
+    edge: u32,
+    rule: u32,
+    apart: &mut Ids,
+) -> Result<(), AllocError>
+    requires runs { IsTrue (list_all (is_run net.now) rules.now) }
+    requires rule { rule < length rules.now }
+    requires rises { RisesBelow rule apart.old }
+    ensures { OnOk result (RisesBelow (rule + 1) apart.new) }
+{
+    if rules.run(rule).contains(&edge) && goes_with_none(net, rules, rule, apart.as_slice()) {
+        return apart.push(rule);
+    }
+    Ok(())
 }
 
 /// Whether a rule goes on no path with one of the others.

@@ -43,14 +43,7 @@ pub fn solve_exact(
     let safe = safe_runs(alloc, net, settings.safe, &flow)?;
     let first = first_answer(alloc, net, &flow, &problem.rules)?;
     let antichain = widest_antichain(alloc, net, &problem.ranges)?;
-    let finding = find_fewest(
-        alloc,
-        net,
-        problem,
-        settings.nodes,
-        antichain.len(),
-        first,
-    )?;
+    let finding = find_fewest(alloc, net, problem, settings.nodes, antichain.len(), first)?;
     Ok(solved_by(alloc, finding, antichain, safe))
 }
 

@@ -1,7 +1,8 @@
 //! The words at worked examples, which the check computes.
 ghost use Rattle.std.specs.Prelude.{◌≡◌, List, [], ◌∷◌, codes, IsNone};
 ghost use Rattle.flowpaths_cli.specs.Words.{settings_of};
-ghost use Rattle.flowpaths_cli.specs.Examples.{naming, naming_safely};
+ghost use Rattle.decomposition.specs.declared.Mode.TheVariants.{Interval, Abs};
+ghost use Rattle.flowpaths_cli.specs.Examples.{naming, naming_safely, naming_in};
 
 /// Words that are taken, and the settings that they give.
 #[tactic(auto, unfolding(crate::proofs::OnWords::words_on_literals))]
@@ -18,6 +19,8 @@ pub fn words_are_taken()
     ensures safe { settings_of (codes "--safe" ∷ []) ≡ naming_safely 20000 (codes "-") }
     ensures both { settings_of (codes "x" ∷ codes "--safe" ∷ codes "--nodes=7" ∷ []) ≡ naming_safely 7 (codes "x") }
     ensures exact { settings_of (codes "--model=exact" ∷ []) ≡ naming 20000 (codes "-") }
+    ensures ranges { settings_of (codes "--model" ∷ codes "interval" ∷ []) ≡ naming_in Interval (codes "-") }
+    ensures errors { settings_of (codes "--paths=3" ∷ codes "--model=abs" ∷ codes "x" ∷ []) ≡ naming_in (Abs 3) (codes "x") }
     ensures twice { settings_of (codes "--" ∷ codes "--" ∷ []) ≡ naming 20000 (codes "--") }
 {}
 
@@ -36,6 +39,8 @@ pub fn words_are_refused()
     ensures greater { IsNone (settings_of (codes "--nodes" ∷ codes "50001" ∷ [])) }
     ensures sign { IsNone (settings_of (codes "--nodes=+7" ∷ [])) }
     ensures help { IsNone (settings_of (codes "--help" ∷ [])) }
-    ensures not_built { IsNone (settings_of (codes "--model" ∷ codes "interval" ∷ [])) }
+    ensures not_built { IsNone (settings_of (codes "--demo" ∷ codes "1" ∷ [])) }
+    ensures no_paths { IsNone (settings_of (codes "--model" ∷ codes "abs" ∷ [])) }
+    ensures not_exact { IsNone (settings_of (codes "--model" ∷ codes "interval" ∷ codes "--safe" ∷ [])) }
     ensures other { IsNone (settings_of (codes "--nodesx=7" ∷ [])) }
 {}

@@ -51,18 +51,10 @@ pub fn solve_interval(
     ensures right { IfOk result (SolvedRight settings.now (instance net.now problem.now)) }
 {
     match first_within(alloc, net, problem)? {
-        Within::Cut(side, vertices) =>
-            Ok(without_answer(alloc, Cert::Cut(side, vertices), None)),
+        Within::Cut(side, vertices) => Ok(without_answer(alloc, Cert::Cut(side, vertices), None)),
         Within::First(first) => {
             let antichain = widest_antichain(alloc, net, &problem.ranges)?;
-            let finding = find_fewest(
-                alloc,
-                net,
-                problem,
-                settings.nodes,
-                antichain.len(),
-                first,
-            )?;
+            let finding = find_fewest(alloc, net, problem, settings.nodes, antichain.len(), first)?;
             Ok(solved_by(alloc, finding, antichain, None))
         }
     }

@@ -38,11 +38,7 @@ pub fn flow_with_room(
 }
 
 /// A flow within ranges, if there is one.
-fn flow_within(
-    alloc: Global,
-    net: &Net,
-    ranges: &[Range],
-) -> Result<Option<Numbers>, AllocError>
+fn flow_within(alloc: Global, net: &Net, ranges: &[Range]) -> Result<Option<Numbers>, AllocError>
     requires one_each { length ranges.now ≡ edge_count net.now }
     requires bounded { IsTrue (list_all (λ r. nat_le r.lo r.hi && nat_le r.hi 1000000000000) ranges.now) }
     ensures { IfOk result (λ found. MatchOption found (NothingIsWithin (ranged net.now ranges.now)) (IsFlowIn net.now ranges.now)) }
@@ -55,11 +51,7 @@ fn flow_within(
 }
 
 /// The ranges with each lower bound raised to the units, or none where the units of an edge pass its upper bound.
-fn raised_by(
-    alloc: Global,
-    ranges: &Ranges,
-    units: &[u64],
-) -> Result<Option<Ranges>, AllocError>
+fn raised_by(alloc: Global, ranges: &Ranges, units: &[u64]) -> Result<Option<Ranges>, AllocError>
     requires one_each { length units.now ≡ length ranges.now }
     ensures { IfOk result (λ raised. MatchOption raised (IsPassed ranges.now units.now) (AreRaised ranges.now units.now)) }
 {

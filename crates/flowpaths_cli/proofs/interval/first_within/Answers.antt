@@ -1,7 +1,6 @@
 -- The flow has room for the paths that are booked by the upper bounds, or nothing within the ranges has.
-use Rattle.std.proofs.Common.{◌≡◌, ◌==◌, ◌≤◌, ℕ, List, slice_index, ◌∙◌, sym, subst, arith}
+use Rattle.std.proofs.Common.{◌≤◌, ℕ, List, slice_index, ◌∙◌, sym, subst}
 use Rattle.std.specs.Prelude.{All, MatchOption}
-use Rattle.std.specs.List.{list_all}
 use Rattle.decomposition.specs.declared.Mode.TheVariants.{Interval}
 use Rattle.flow_models.specs.Problem.{instance}
 use Rattle.greedy_paths.specs.Booking.{AreBooked}
@@ -11,7 +10,7 @@ use Rattle.lower_flow.specs.Found.{IsFlowOrCut}
 use Rattle.flowpaths_cli.specs.Right.{NothingIsWithin}
 use Rattle.flowpaths_cli.specs.Room.{HasNoRoomFor, HasRoomFor, IsFlowIn}
 use Rattle.flowpaths_cli.proofs.Beginnings.{booked_ones, flow_in, flow_small, flow_within, interval_known, interval_unknown}
-use Rattle.flowpaths_cli.proofs.Bounded.{highs, highs_small}
+use Rattle.flowpaths_cli.proofs.Bounded.{highs_small}
 use Rattle.flowpaths_cli.proofs.interval.first_within.Goals as goal
 use Rattle.flowpaths_cli.proofs.interval.first_within.Goals.{After-as_slice-in-Some, In-Flow}
 
@@ -54,11 +53,10 @@ returns-in-Some c =
     let flow = c.as_slice-in-Some.result.now in
     let has = room (goal.at.returns-in-Some c).After-as_slice-in-Some in
     let told = c.in_ok-first-in-Some.ensures in
-    let is = c.deref.ensures.value ∙ c.in_ok-guide.ensures in
-    (
+    let is = c.deref.ensures.value ∙ c.in_ok-guide.ensures in (
       interval_known built_on_booked_is_first i flow c.in_ok-booked.booked c.in_ok-first-in-Some.first c.requires.valid has.within.0 (flow_in i flow has.within)
-      (subst (λ (ws : List ℕ). AreBooked i.graph (slice_index ws) i.rules c.in_ok-booked.booked) is c.in_ok-booked.ensures.booked) c.in_ok-booked.ensures.covers c.in_ok-booked.ensures.few
-      told.sums told.order told.few told.keeps told.built,
+          (subst (λ (ws : List ℕ). AreBooked i.graph (slice_index ws) i.rules c.in_ok-booked.booked) is c.in_ok-booked.ensures.booked) c.in_ok-booked.ensures.covers c.in_ok-booked.ensures.few
+          told.sums told.order told.few told.keeps told.built,
       some_within (goal.at.returns-in-Some c).In-Flow,
     )
 
@@ -66,10 +64,9 @@ pub returns : goal.returns
 returns c =
     let i = instance c.args.net.now c.args.problem.now in
     let booked = c.in_ok-booked.booked in
-    let is = c.deref.ensures.value ∙ c.in_ok-guide.ensures in
-    (
+    let is = c.deref.ensures.value ∙ c.in_ok-guide.ensures in (
       interval_unknown booked_paths_are_one_list i booked c.requires.valid
-      (subst (λ (ws : List ℕ). AreBooked i.graph (slice_index ws) i.rules booked) is c.in_ok-booked.ensures.booked)
-      (subst (λ found. MatchOption found (HasNoRoomFor i.graph i.ranges booked) (HasRoomFor i.graph i.ranges booked)) c.in-None.is c.in_ok-flow-2.ensures),
+          (subst (λ (ws : List ℕ). AreBooked i.graph (slice_index ws) i.rules booked) is c.in_ok-booked.ensures.booked)
+          (subst (λ found. MatchOption found (HasNoRoomFor i.graph i.ranges booked) (HasRoomFor i.graph i.ranges booked)) c.in-None.is c.in_ok-flow-2.ensures),
       some_within (goal.at.returns c).In-Flow,
     )

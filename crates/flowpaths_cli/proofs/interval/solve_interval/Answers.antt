@@ -1,5 +1,5 @@
 -- A cut, or what the searches found from a first answer.
-use Rattle.std.proofs.Common.{◌≡◌, ℕ, List, None, false, length, sym, subst, ◌∙◌, arith}
+use Rattle.std.proofs.Common.{sym, subst, arith}
 use Rattle.decomposition.specs.declared.Mode.TheVariants.{Interval}
 use Rattle.flow_models.specs.Problem.{instance}
 use Rattle.flowpaths_cli.specs.Firsts.{IsWithin}

@@ -1,11 +1,10 @@
 -- The booked paths are those of the weights; where there are too many, nothing is asked of the search.
-use Rattle.std.proofs.Common.{◌≡◌, ◌≤◌, ◌<◌, ℕ, List, slice_index, ◌∙◌, sym, subst, arith}
+use Rattle.std.proofs.Common.{◌≤◌, ℕ, List, slice_index, ◌∙◌, sym, subst, arith}
 use Rattle.std.specs.Prelude.{All}
 use Rattle.decomposition.specs.declared.Mode.TheVariants.{Abs}
 use Rattle.flow_models.specs.Problem.{instance}
 use Rattle.greedy_paths.specs.Booking.{AreBooked}
 use Rattle.greedy_paths.proofs.OneList.{booked_paths_are_one_list}
-use Rattle.flowpaths_cli.specs.Booking.{upper_bound}
 use Rattle.flowpaths_cli.proofs.Beginnings.{both_same}
 use Rattle.flowpaths_cli.proofs.Bounded.{lows, lows-at, lows_small}
 use Rattle.flowpaths_cli.proofs.Halving.{booked_error, booked_found, booked_total, too_many_if_ok}

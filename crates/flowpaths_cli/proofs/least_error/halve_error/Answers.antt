@@ -1,5 +1,5 @@
 -- The first answer is between 0 and its error, which is small.
-use Rattle.std.proofs.Common.{None, arith, sym}
+use Rattle.std.proofs.Common.{arith, sym}
 use Rattle.flow_models.specs.Problem.{instance}
 use Rattle.flowpaths_cli.proofs.Halving.{between_first, error_small}
 use Rattle.flowpaths_cli.proofs.least_error.halve_error.Goals as goal
@@ -12,8 +12,7 @@ overflow_cast-halved c =
 
 pub loop-halved-init : goal.loop-halved-init
 loop-halved-init c =
-    let i = instance c.args.net.now c.args.problem.now in
-    (
+    let i = instance c.args.net.now c.args.problem.now in (
       record {
         between = between_first c.args.nodes c.args.k i c.args.first c.error_of.result c.requires.valid (omega (arith, c.edges.ensures.edges, c.edges.ensures.few)) c.requires.few c.requires.found (sym c.error_of.ensures);
         spent = tt;

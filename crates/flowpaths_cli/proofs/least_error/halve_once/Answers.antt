@@ -1,5 +1,5 @@
 -- An answer lowers the upper bound, and a refutation raises the lower one.
-use Rattle.std.proofs.Common.{◌≡◌, ◌+◌, ◌/◌, None, subst, sym, arith}
+use Rattle.std.proofs.Common.{◌+◌, ◌/◌, subst, sym, arith}
 use Rattle.flow_models.specs.Problem.{instance}
 use Rattle.flowpaths_cli.specs.Halved.{IsSpentBetween}
 use Rattle.flowpaths_cli.specs.Searched.{AttemptsAs}

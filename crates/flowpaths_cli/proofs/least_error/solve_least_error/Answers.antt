@@ -1,5 +1,5 @@
 -- The bounds on the error, or that no so many paths cover.
-use Rattle.std.proofs.Common.{◌≡◌, ◌≤◌, ℕ, List, false, length, sym, subst, arith}
+use Rattle.std.proofs.Common.{sym, subst, arith}
 use Rattle.decomposition.specs.declared.Mode.TheVariants.{Abs}
 use Rattle.flow_models.specs.Problem.{instance}
 use Rattle.flowpaths_cli.specs.Halved.{IsHalvedFor}

@@ -1,10 +1,7 @@
 -- The raised ranges have a flow or none, or cannot be raised.
-use Rattle.std.proofs.Common.{ℕ, List, Option, Result, Ok, Err, sym, subst}
-use Rattle.std.specs.Prelude.{IfOk, MatchOption}
-use Rattle.decomposition.specs.declared.Range.{Range}
-use Rattle.decomposition.specs.Graph.{Graph}
-use Rattle.flowpaths_cli.specs.Right.{NothingIsWithin}
-use Rattle.flowpaths_cli.specs.Room.{AreRaised, IsFlowIn, IsPassed, ranged}
+use Rattle.std.proofs.Common.{ℕ, List, sym, subst}
+use Rattle.std.specs.Prelude.{MatchOption}
+use Rattle.flowpaths_cli.specs.Room.{AreRaised, IsPassed}
 use Rattle.flowpaths_cli.proofs.Raising.{passed-no_room, raised-bounded, room_if_ok}
 use Rattle.flowpaths_cli.proofs.room.flow_with_room.Goals as goal
 

@@ -1,5 +1,5 @@
 -- The problem stands for the instance of the graph, in each model.
-use Rattle.std.proofs.Common.{◌≡◌, List, length, ap, sym, subst, arith}
+use Rattle.std.proofs.Common.{◌≡◌, length, ap, sym, subst, arith}
 use Rattle.std.specs.Prelude.{IfOk}
 use Rattle.decomposition.specs.declared.Mode.{Mode}
 use Rattle.decomposition.specs.Instance.{Instance, IsInstance}

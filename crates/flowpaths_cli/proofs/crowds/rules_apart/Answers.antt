@@ -1,0 +1,7 @@
+-- Rules that rise below the number of all fit a report.
+use Rattle.std.proofs.Common.{arith}
+use Rattle.flowpaths_cli.proofs.Rising.{rising_rules}
+use Rattle.flowpaths_cli.proofs.crowds.rules_apart.Goals as goal
+
+pub returns : goal.returns
+returns c = rising_rules c.loop-rule.rule c.loop-rule.apart (omega arith) (omega (arith, c.len.ensures)) c.loop-rule.invariant
