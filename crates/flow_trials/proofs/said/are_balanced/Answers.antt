@@ -12,5 +12,5 @@ returns-in-None c =
     let found : IsBalanced g (slice_index c.deref-2.result.now)
     = subst (λ (o : Option ℕ). IfNone o (IsBalanced g (slice_index c.deref-2.result.now))) c.in-None.is c.in_ok-unbalanced.ensures.balanced in
     λ balanced.
-        balanced-same g (slice_index (lows ranges)) (λ e. (range_at ranges e).lo) (lows-at ranges)
-        (subst (λ (ws : List ℕ). IsBalanced g (slice_index ws)) (c.deref-2.ensures.value ∙ c.in_ok-flow.ensures) found)
+    balanced-same g (slice_index (lows ranges)) (λ e. (range_at ranges e).lo) (lows-at ranges)
+    (subst (λ (ws : List ℕ). IsBalanced g (slice_index ws)) (c.deref-2.ensures.value ∙ c.in_ok-flow.ensures) found)
