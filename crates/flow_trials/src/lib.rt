@@ -18,6 +18,8 @@ mod faults;
 #[cfg(test)]
 mod fronts;
 #[cfg(test)]
+mod models;
+#[cfg(test)]
 mod problems;
 #[cfg(test)]
 mod readings;

@@ -39,8 +39,17 @@ const TAKEN: [(&[&str], u32, bool, &str); 30] = [
     (&["--", "--model=abs"], 20_000, false, "--model=abs"),
 ];
 
+/// Words that are taken, and the model that they give.
+const MODELS: [(&[&str], Mode); 5] = [
+    (&["--model", "exact"], Mode::Exact),
+    (&["--model", "interval"], Mode::Interval),
+    (&["x", "--model=abs", "--paths=0"], Mode::Abs { k: 0 }),
+    (&["--paths", "64", "--model", "abs"], Mode::Abs { k: 64 }),
+    (&["--paths=0000000002", "--model=abs"], Mode::Abs { k: 2 }),
+];
+
 /// Words that are refused.
-const REFUSED: [&[&str]; 58] = [
+const REFUSED: [&[&str]; 56] = [
     &["--nodes"],
     &["x", "--nodes"],
     &["--nodes="],
@@ -70,11 +79,9 @@ const REFUSED: [&[&str]; 58] = [
     &["--model", "flow"],
     &["--model", "Exact"],
     &["--model=exact", "--model=exact"],
-    &["--model", "interval"],
     &["--model", "interval", "--safe"],
     &["--model", "abs"],
     &["--model", "abs", "--paths", "65"],
-    &["--model", "abs", "--paths", "2"],
     &["--model", "abs", "--paths", "2", "--safe"],
     &["--paths", "2"],
     &["--paths=2"],
@@ -113,6 +120,16 @@ fn words_are_taken(rt: HostRuntime) -> Result<(), Fail> {
             settings.safe == safe && settings.demo.is_none(),
             "{words:?}"
         );
+    }
+    Ok(())
+}
+
+#[test]
+fn models_are_taken(rt: HostRuntime) -> Result<(), Fail> {
+    let alloc = rt.alloc();
+    for (words, mode) in MODELS {
+        let settings = Settings::of_words(alloc, &owned(alloc, words)?)?;
+        assert_eq!(rt; settings.mode, mode, "{words:?}");
     }
     Ok(())
 }
