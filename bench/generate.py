@@ -3,6 +3,10 @@
     generate.py small COUNT [SEED]    COUNT graphs of about ten edges
     generate.py large COUNT [SEED]    COUNT graphs of 200 edges or a few more
     generate.py tangled COUNT [SEED]  COUNT graphs of at most 60 edges, made of four to twelve paths that often meet
+    generate.py ruled COUNT [SEED]    tangled graphs with four constraints each, of runs of four edges of their paths
+    generate.py ranges COUNT [SEED]   tangled graphs whose weights are known to a tenth to either side
+    generate.py noisy COUNT [SEED]    graphs of at most 60 edges, made of two to four paths, with an error of at most a tenth on each weight
+    generate.py rules [SEED]          one graph of 250 edges or a few more, made of paths of 24 edges, with 32 constraints of 20 edges
     generate.py comments BYTES        comment and blank lines, BYTES bytes in all
     generate.py long [LINES]          one graph: LINES comment lines, blank lines, and names of 60,000 bytes
 """
@@ -56,22 +60,76 @@ def tangled_graph(draw, number):
     return "\n".join(lines) + "\n"
 
 
-def write_tangled(out, count, seed):
+def layered_paths(draw, most, layers):
+    """Weighted paths over layers, as lists of edges, with at most 60 edges in all."""
+    paths, edges = [], set()
+    for _ in range(most):
+        names = [draw.choice(layer) for layer in layers]
+        path = list(zip(names, names[1:]))
+        if len(edges | set(path)) > 60:
+            break
+        edges |= set(path)
+        paths.append((path, draw.randint(1, 100)))
+    return paths
+
+
+def nine_layers(draw):
+    return [[f"v{layer}_{k}" for k in range(draw.randint(1, 3))] for layer in range(9)]
+
+
+def weights_of(paths):
+    weights = {}
+    for path, weight in paths:
+        for edge in path:
+            weights[edge] = weights.get(edge, 0) + weight
+    return weights
+
+
+def constraint_of(path, start, edges):
+    run = path[start : start + edges]
+    return "#S " + " ".join([run[0][0]] + [head for _, head in run])
+
+
+def ruled_graph(draw, number):
+    paths = layered_paths(draw, draw.randint(4, 12), nine_layers(draw))
+    lines = [f"# graph {number}"]
+    lines += [constraint_of(draw.choice(paths)[0], draw.randint(0, 4), 4) for _ in range(4)]
+    return "\n".join(lines + ["27"] + [f"{u} {v} {w}" for (u, v), w in weights_of(paths).items()]) + "\n"
+
+
+def ranged_graph(draw, number):
+    weights = weights_of(layered_paths(draw, draw.randint(4, 12), nine_layers(draw)))
+    lines = [f"# graph {number}", "27"]
+    lines += [f"{u} {v} {w - draw.randint(0, w // 10)} {w + draw.randint(0, w // 10)}" for (u, v), w in weights.items()]
+    return "\n".join(lines) + "\n"
+
+
+def noisy_graph(draw, number):
+    weights = weights_of(layered_paths(draw, draw.randint(2, 4), nine_layers(draw)))
+    lines = [f"# graph {number}", "27"]
+    lines += [f"{u} {v} {max(0, w + draw.randint(-(w // 10), w // 10))}" for (u, v), w in weights.items()]
+    return "\n".join(lines) + "\n"
+
+
+def rules_graph(draw):
+    """Paths of 24 edges over layers of twelve vertices, until there are 250 edges, and 32 constraints among them."""
+    paths, weights = [], {}
+    while len(weights) < 232:
+        names = [f"v{layer}_{draw.randrange(12)}" for layer in range(25)]
+        paths.append((list(zip(names, names[1:])), draw.randint(1, 1000)))
+        weights = weights_of(paths)
+    lines = ["# rules"]
+    while len(lines) < 33:
+        line = constraint_of(draw.choice(paths)[0], draw.randint(0, 4), 20)
+        if line not in lines:
+            lines.append(line)
+    return "\n".join(lines + ["300"] + [f"{u} {v} {w}" for (u, v), w in weights.items()]) + "\n"
+
+
+def write_each(out, make, count, seed):
     draw = random.Random(seed)
     for number in range(1, count + 1):
-        out.write(tangled_graph(draw, number).encode())
-
-
-def write_large(out, count, seed):
-    draw = random.Random(seed)
-    for number in range(1, count + 1):
-        out.write(large_graph(draw, number).encode())
-
-
-def write_small(out, count, seed):
-    draw = random.Random(seed)
-    for number in range(1, count + 1):
-        out.write(small_graph(draw, number).encode())
+        out.write(make(draw, number).encode())
 
 
 def write_comments(out, size):
@@ -97,15 +155,23 @@ def write_long(out, lines):
         out.write(name + b" t %d\n" % (number + 1) + b" \t\n" * 1000)
 
 
+MAKERS = {
+    "small": small_graph,
+    "large": large_graph,
+    "tangled": tangled_graph,
+    "ruled": ruled_graph,
+    "ranges": ranged_graph,
+    "noisy": noisy_graph,
+}
+
+
 def main(words):
     out = sys.stdout.buffer
     kind, numbers = words[0], [int(word) for word in words[1:]]
-    if kind == "small":
-        write_small(out, numbers[0], numbers[1] if len(numbers) > 1 else 1)
-    elif kind == "large":
-        write_large(out, numbers[0], numbers[1] if len(numbers) > 1 else 1)
-    elif kind == "tangled":
-        write_tangled(out, numbers[0], numbers[1] if len(numbers) > 1 else 1)
+    if kind in MAKERS:
+        write_each(out, MAKERS[kind], numbers[0], numbers[1] if len(numbers) > 1 else 1)
+    elif kind == "rules":
+        out.write(rules_graph(random.Random(numbers[0] if numbers else 1)).encode())
     elif kind == "comments":
         write_comments(out, numbers[0])
     elif kind == "long":
@@ -115,6 +181,6 @@ def main(words):
 
 
 if __name__ == "__main__":
-    if len(sys.argv) < 2 or sys.argv[1] not in ("small", "large", "tangled", "comments", "long"):
+    if len(sys.argv) < 2:
         sys.exit(__doc__)
     main(sys.argv[1:])

@@ -6,7 +6,8 @@ ghost use Rattle.decomposition.specs.Graph.{edge_count, is_run};
 
 use crate::problems::DIAMONDS;
 use dag_net::{Answer, IdLists, Ids, Net};
-use greedy_paths::{GreedyFault, book, decompose_with};
+use greedy_paths::{GreedyFault, book, decompose, decompose_with};
+use safe_paths::maximal_safe;
 use std::alloc::Global;
 use std::test::Fail;
 use subpath_rules::Rules;
@@ -138,5 +139,24 @@ fn an_unbalanced_vertex_is_refused_first(rt: HostRuntime) -> Result<(), Fail> {
     assert!(rt; is_flow(&net, &flow));
     let refused = decompose_with(alloc, &net, &flow, &rules);
     assert!(rt; matches!(refused, Err(GreedyFault::Unbalanced { vertex: 6 })));
+    Ok(())
+}
+
+#[test]
+fn two_answers_have_one_list_of_safe_runs(rt: HostRuntime) -> Result<(), Fail> {
+    let alloc = rt.alloc();
+    let net = Net::build(alloc, 7, &DIAMONDS)?;
+    assert!(rt; net.edges() == 8);
+    let flow = [5, 5, 2, 2, 4, 4, 3, 3];
+    let rules = rules_of(alloc, &net, &CROSSINGS)?;
+    let widest = decompose(alloc, &net, &flow)?;
+    let crossing = decompose_with(alloc, &net, &flow, &rules)?;
+    assert!(rt; widest.len() == 3 && crossing.len() == 4);
+    let one = maximal_safe(alloc, &net, &flow, &widest)?;
+    let other = maximal_safe(alloc, &net, &flow, &crossing)?;
+    assert!(rt; one.len() == 3 && other.len() == 3);
+    for i in 0..3 {
+        assert!(rt; one.get(i).as_slice() == other.get(i).as_slice(), "run {i}");
+    }
     Ok(())
 }
