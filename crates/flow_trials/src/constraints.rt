@@ -1,56 +1,8 @@
 //! Constraints: which lists are read, and which are refused.
 
 use crate::runs::run_on;
-use dag_net::Mode;
 use flow_io::Status;
-use graph_text::{Block, BlockReader};
-use std::alloc::Global;
 use std::test::Fail;
-
-/// The last block of a text, which is given in pieces of this size.
-fn last_block(alloc: Global, text: &str, chunk: usize) -> Result<Option<Block>, Fail> {
-    let mut reader = BlockReader::new(alloc, Mode::Exact)?;
-    let bytes = text.as_bytes();
-    let mut taken = 0;
-    while taken < bytes.len() {
-        let end = bytes.len().min(taken + chunk);
-        taken += reader.feed(&bytes[taken..end])?;
-        let _earlier = reader.take();
-    }
-    reader.finish()?;
-    Ok(reader.take())
-}
-
-#[test]
-fn lists_are_read_as_runs(rt: HostRuntime) -> Result<(), Fail> {
-    let alloc = rt.alloc();
-    let rows: [(&str, &[&[u32]]); 6] = [
-        ("# x\n#S s t\n2\ns t 1\n", &[&[0]]),
-        ("# x\n#S s #t\n2\ns #t 1\n", &[&[0]]),
-        ("# x\n#S s a t\n#S a t\n3\ns a 1\na t 1\n", &[&[0, 1], &[1]]),
-        (
-            "# x\n#S a t\n# y\n\n#S  a\tt \r\n#S s a\n3\ns a 1\na t 1\n",
-            &[&[1], &[0]],
-        ),
-        ("# x\n#Sub s t\n##S s t\n2\ns t 1\n", &[]),
-        ("# x\n2\ns t 1\n#S s t\n2\ns t 1\n", &[&[0]]),
-    ];
-    for chunk in [1, 3, 4096usize] {
-        for (text, runs) in rows {
-            let Some(block) = last_block(alloc, text, chunk)? else {
-                return Err(Fail::new("a block with a graph is wanted"));
-            };
-            let Ok(graph) = block.body else {
-                return Err(Fail::new("a block with a graph is wanted"));
-            };
-            assert_eq!(rt; graph.runs.len(), runs.len(), "how many runs {text} has");
-            for (i, run) in runs.iter().enumerate() {
-                assert!(rt; graph.runs.get(i).as_slice() == *run, "run {i} of {text}");
-            }
-        }
-    }
-    Ok(())
-}
 
 #[test]
 fn lists_are_refused(rt: HostRuntime) -> Result<(), Fail> {

@@ -22,7 +22,6 @@ mod models;
 #[cfg(test)]
 mod problems;
 #[cfg(test)]
-mod readings;
 #[cfg(test)]
 mod reports;
 #[cfg(test)]
