@@ -1,0 +1,13 @@
+pub mod Digits
+pub mod PathsDrawn
+pub mod GatheredUses
+pub mod GatheredEnds
+pub mod PlainLines
+pub mod EdgesAlong
+pub mod BalancedUses
+pub mod DemoGraph
+pub mod Numerals
+pub mod EdgeLines
+pub mod BlockReads
+pub mod LineGroups
+pub mod DemoBlocks
