@@ -13,6 +13,7 @@ pub mod Attempts
 pub mod Beginnings
 pub mod FoundPaths
 pub mod Raising
+pub mod Thinning
 pub mod Halving
 pub mod LeastError
 pub mod Problems

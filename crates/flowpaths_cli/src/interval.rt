@@ -17,6 +17,7 @@ use crate::counted::{solved_by, without_answer};
 use crate::counting::find_fewest;
 use crate::room::flow_with_room;
 use crate::settings::Settings;
+use crate::thin::thin_flow;
 use dag_net::{Answer, Ids, Net};
 use decomposition::Side;
 use flow_models::Problem;
@@ -75,7 +76,8 @@ fn first_within(alloc: Global, net: &Net, problem: &Problem) -> Result<Within, A
     let booked = book(alloc, net, &guide, &problem.rules)?;
     match flow_with_room(alloc, net, &problem.ranges, flow, &booked)? {
         Some(flow) => {
-            let first = answer_over(alloc, net, flow.as_slice(), booked)?;
+            let thin = thin_flow(alloc, net, &problem.ranges, flow, &booked)?;
+            let first = answer_over(alloc, net, thin.as_slice(), booked)?;
             Ok(Within::First(Some(first)))
         }
         None => Ok(Within::First(None)),

@@ -21,6 +21,7 @@ mod settings;
 mod solving;
 mod stop;
 mod telling;
+mod thin;
 mod words;
 
 pub use call::flowpaths;

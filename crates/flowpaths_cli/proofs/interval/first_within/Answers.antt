@@ -22,6 +22,16 @@ book-requires-clause-small c =
 pub flow_with_room-requires-clause-units : goal.flow_with_room-requires-clause-units
 flow_with_room-requires-clause-units c = booked_ones c.args.net.now (slice_index c.deref.result.now) c.args.problem.now.rules c.in_ok-booked.booked c.in_ok-booked.ensures.booked
 
+pub thin_flow-requires-clause-units : goal.thin_flow-requires-clause-units
+thin_flow-requires-clause-units c = booked_ones c.args.net.now (slice_index c.deref.result.now) c.args.problem.now.rules c.in_ok-booked.booked c.in_ok-booked.ensures.booked
+
+pub thin_flow-requires-clause-room : goal.thin_flow-requires-clause-room
+thin_flow-requires-clause-room c =
+    let g = c.args.net.now in
+    let ranges = c.args.problem.now.ranges in
+    let booked = c.in_ok-booked.booked in
+    subst (λ found. MatchOption found (HasNoRoomFor g ranges booked) (HasRoomFor g ranges booked)) c.in-Some.is c.in_ok-flow-2.ensures
+
 pub answer_over-requires-clause-units : goal.answer_over-requires-clause-units
 answer_over-requires-clause-units c = booked_ones c.args.net.now (slice_index c.deref.result.now) c.args.problem.now.rules c.in_ok-booked.booked c.in_ok-booked.ensures.booked
 
@@ -31,8 +41,7 @@ room c =
     let g = c.args.net.now in
     let ranges = c.args.problem.now.ranges in
     let booked = c.in_ok-booked.booked in
-    let told = subst (λ found. MatchOption found (HasNoRoomFor g ranges booked) (HasRoomFor g ranges booked)) c.in-Some.is c.in_ok-flow-2.ensures in
-    subst (HasRoomFor g ranges booked) (sym c.as_slice-in-Some.ensures) told
+    subst (HasRoomFor g ranges booked) (sym c.as_slice-in-Some.ensures) c.in_ok-thin-in-Some.ensures
 
 -- some weighted paths lie within the ranges
 some_within : (c : In-Flow) → NothingIsWithin (instance c.args.net.now c.args.problem.now) → ⊥
