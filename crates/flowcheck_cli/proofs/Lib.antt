@@ -1,1 +1,2 @@
-
+mod Models
+mod TextCuts

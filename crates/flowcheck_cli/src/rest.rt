@@ -1,6 +1,7 @@
 //! The texts that a text of reports is cut into, one after another.
-ghost use Rattle.std.specs.Prelude.{◌≡◌, ◌≤◌, ◌<◌, ◌+◌, [], ◌∷◌, ◌++◌, length, take, drop};
-ghost use Rattle.flowcheck_cli.specs.ReportTexts.{ended_lines, report_texts, line_count, first_of};
+ghost use Rattle.std.specs.Prelude.{◌≡◌, ◌≤◌, ◌<◌, ◌+◌, ◌==◌, [], ◌∷◌, ◌++◌, length, take, drop};
+ghost use Rattle.std.specs.List.{position};
+ghost use Rattle.flowcheck_cli.specs.ReportTexts.{ended_lines, report_texts, line_count};
 
 use std::marker::Model;
 
@@ -69,12 +70,17 @@ pub(crate) fn line_length(bytes: &[u8]) -> usize
     ensures some { 0 < length bytes.now → 0 < result }
     ensures lines { 0 < length bytes.now → ended_lines bytes.now ≡ take result bytes.now ∷ ended_lines (drop result bytes.now) }
 {
-    for (place, byte) in bytes.iter().enumerate() {
-        if *byte == b'\n' {
-            return place + 1;
-        }
+    match line_end(bytes) {
+        Some(place) => place + 1,
+        None => bytes.len(),
     }
-    bytes.len()
+}
+
+/// The place of the first line feed.
+fn line_end(bytes: &[u8]) -> Option<usize>
+    ensures { result ≡ position (λ b. b == 10) bytes.now }
+{
+    bytes.iter().position(|byte| *byte == b'\n')
 }
 
 /// The length of the first text: up to and with its line `end`, or all of the bytes.
