@@ -9,6 +9,7 @@ mod outcome;
 mod printing;
 mod rest;
 mod short_line;
+mod verdicts;
 
 pub use judging::judge;
 pub use laws::yes_is_true;
