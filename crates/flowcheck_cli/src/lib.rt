@@ -2,6 +2,7 @@
 #![tactic(auto)]
 
 mod digits;
+pub mod examples;
 mod judging;
 mod laws;
 mod model;
