@@ -1,0 +1,6 @@
+pub mod CheckLines
+pub mod Handed
+pub mod Outcomes
+pub mod ReportTexts
+pub mod Short
+pub mod YesIsTrue
