@@ -23,3 +23,4 @@ pub mod Parsed
 pub mod OnWords
 pub mod WordSettings
 pub mod SafeLists
+pub mod Acceptance
