@@ -1,0 +1,5 @@
+pub mod CheckLines
+pub mod Handed
+pub mod Outcomes
+pub mod ReportTexts
+pub mod YesIsTrue
