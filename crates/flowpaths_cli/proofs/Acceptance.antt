@@ -1,6 +1,6 @@
 -- What a right report says is accepted, line by line.
-use Rattle.std.proofs.Common.{◌≡◌, ◌≢◌, ◌<◌, ℕ, List, ◌∷◌, Option, Some, None, Ok, refl, sym, subst, arith}
-use Rattle.std.specs.Prelude.{AllPairs, IfSome, IsSomeAnd}
+use Rattle.std.proofs.Common.{◌≡◌, ◌<◌, ℕ, List, ◌∷◌, Option, Some, None, Ok, refl, sym, subst, arith}
+use Rattle.std.specs.Prelude.{IfSome, IsSomeAnd}
 use Rattle.cert_check.specs.Accepted.{MarkFits, PathsFit, ShowsBound, ShowsNone, CertFits, IsAsked, LeavesOpen, TrailFits, SafeFits, CountsPaths as Counts}
 use Rattle.cert_check.specs.Verdict.{IsAcceptedBody, IsAcceptedSolved}
 use Rattle.cert_check.specs.Verdict.Line.{MarkLine, UpperLine, CertLine, TrailLine, SafeLine}
@@ -19,8 +19,8 @@ use Rattle.path_report.specs.declared.report.Mark.{Mark}
 use Rattle.path_report.specs.declared.report.Mark.TheVariants.{Optimal, Infeasible, Bounds}
 use Rattle.path_report.specs.declared.report.Solved.{Solved}
 use Rattle.path_report.specs.declared.report.Trail.{Trail}
-use Rattle.flowpaths_cli.specs.AcceptedReports.{HasEachPathOnce, RightReportsAreAccepted}
-use Rattle.flowpaths_cli.specs.Right.{AreBuilt, AreListed, ArePathsFor, BodyRight, CountsPaths, HasRanges, IsCertFor, IsCertOfNone, IsMarked, IsTrailFor, SolvedRight, decision_between}
+use Rattle.flowpaths_cli.specs.AcceptedReports.{RightReportsAreAccepted}
+use Rattle.flowpaths_cli.specs.Right.{AreBuilt, AreListed, ArePathsFor, BodyRight, CountsPaths, HasEachPathOnce, HasRanges, IsCertFor, IsCertOfNone, IsMarked, IsTrailFor, SolvedRight, decision_between}
 use Rattle.flowpaths_cli.specs.declared.settings.Settings.{Settings}
 
 -- the number of paths is to be least
@@ -39,14 +39,9 @@ mark_fits nodes mode i s Optimal h = subst (λ l. IsSomeAnd l (λ n. s.upper ≡
 mark_fits nodes mode i s Infeasible h = (h.lower, h.upper)
 mark_fits nodes mode i s Bounds h = subst (λ l. IsSomeAnd l (λ n. IfSome s.upper (λ u. n < u))) (sym h.lower) h.upper
 
-paths_fit : (mode : Mode) (i : Instance) (upper : Option ℕ) (paths : List (List ℕ × ℕ)) → AllPairs (λ a b. a.0 ≢ b.0) paths → ArePathsFor mode i upper paths → PathsFit mode i upper paths
+paths_fit : (mode : Mode) (i : Instance) (upper : Option ℕ) (paths : List (List ℕ × ℕ)) → HasEachPathOnce paths → ArePathsFor mode i upper paths → PathsFit mode i upper paths
 paths_fit mode i None paths once h = h
 paths_fit mode i (Some upper) paths once h = (once, h.0, h.1)
-
--- what an accepted line of paths says of them
-each_once : (mode : Mode) (i : Instance) (upper : Option ℕ) (paths : List (List ℕ × ℕ)) → PathsFit mode i upper paths → AllPairs (λ a b. a.0 ≢ b.0) paths
-each_once mode i None paths h = subst (λ (ps : List (List ℕ × ℕ)). AllPairs (λ a b. a.0 ≢ b.0) ps) (sym h) (λ k l d before inside. absurd (omega arith))
-each_once mode i (Some upper) paths h = h.0
 
 shows_bound : (nodes : ℕ) (mode : Mode) (i : Instance) (lower : ℕ) (cert : Cert) → IsCertFor nodes mode i lower cert → ShowsBound mode i lower cert
 shows_bound nodes mode i lower Zero h = h
@@ -102,24 +97,18 @@ safe_fits : (set : Settings) (i : Instance) (runs : Option (List (List ℕ))) �
 safe_fits set i None built h = tt
 safe_fits set i (Some runs) built h = (built.safe (sym h.0), h.1)
 
-solved_accepted : (set : Settings) (i : Instance) (s : Solved) → AreBuilt set → SolvedRight set i s → AllPairs (λ a b. a.0 ≢ b.0) s.paths → IsAcceptedSolved set.mode i s
-solved_accepted set i s built right once MarkLine = mark_fits set.nodes set.mode i s s.mark right.marked
-solved_accepted set i s built right once UpperLine = paths_fit set.mode i s.upper s.paths once right.paths
-solved_accepted set i s built right once CertLine = cert_fits set.nodes set.mode i s s.mark right.marked
-solved_accepted set i s built right once TrailLine = trail_fits set.nodes set.mode i s s.mark right.marked
-solved_accepted set i s built right once SafeLine = safe_fits set i s.safe built right.safe
+solved_accepted : (set : Settings) (i : Instance) (s : Solved) → AreBuilt set → SolvedRight set i s → IsAcceptedSolved set.mode i s
+solved_accepted set i s built right MarkLine = mark_fits set.nodes set.mode i s s.mark right.marked
+solved_accepted set i s built right UpperLine = paths_fit set.mode i s.upper s.paths right.once right.paths
+solved_accepted set i s built right CertLine = cert_fits set.nodes set.mode i s s.mark right.marked
+solved_accepted set i s built right TrailLine = trail_fits set.nodes set.mode i s s.mark right.marked
+solved_accepted set i s built right SafeLine = safe_fits set i s.safe built right.safe
 
-body_accepted : (set : Settings) (graph : RawGraph) (body : Body) → AreBuilt set → BodyRight set (Ok graph) body → HasEachPathOnce body → IsAcceptedBody set.mode (instance_of graph) body
-body_accepted set graph (Refused refusal) built right once = right
-body_accepted set graph (SolvedBody s) built right once = solved_accepted set (instance_of graph) s built right once
-
-body_once : (mode : Mode) (i : Instance) (body : Body) → IsAcceptedBody mode i body → HasEachPathOnce body
-body_once mode i (Refused refusal) accepted = tt
-body_once mode i (SolvedBody s) accepted = each_once mode i s.upper s.paths (accepted UpperLine)
+body_accepted : (set : Settings) (graph : RawGraph) (body : Body) → AreBuilt set → BodyRight set (Ok graph) body → IsAcceptedBody set.mode (instance_of graph) body
+body_accepted set graph (Refused refusal) built right = right
+body_accepted set graph (SolvedBody s) built right = solved_accepted set (instance_of graph) s built right
 
 pub right_reports_are_accepted : RightReportsAreAccepted
 right_reports_are_accepted s block graph report text built is_read right =
-    let body : BodyRight s (Ok graph) report.body = subst (λ r. BodyRight s r report.body) is_read right.body_is in (
-      λ accepted. body_once s.mode (instance_of graph) report.body accepted.body,
-      λ once. record { model = right.mode_is; body = body_accepted s graph report.body built body once },
-    )
+    let body : BodyRight s (Ok graph) report.body = subst (λ r. BodyRight s r report.body) is_read right.body_is in
+    record { model = right.mode_is; body = body_accepted s graph report.body built body }

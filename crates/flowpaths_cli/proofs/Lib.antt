@@ -6,6 +6,7 @@ pub mod Inputs
 pub mod Accounts
 pub mod Bounded
 pub mod Widths
+pub mod PathsOnce
 pub mod CountedRight
 pub mod Solved
 pub mod TokenPlaces

@@ -1,8 +1,8 @@
-//! Which reports of the program are accepted by a check of their certificates: the function has an empty body, and its
-//! contract is the law.
+//! Right reports are accepted by a check of their certificates: the function has an empty body, and its contract is the
+//! law.
 ghost use Rattle.flowpaths_cli.specs.AcceptedReports.{RightReportsAreAccepted};
 
-/// A right report on a graph is accepted exactly where no path stands twice in it.
+/// A right report on a graph is accepted.
 pub fn right_reports_are_accepted()
     ensures { RightReportsAreAccepted }
 {}
