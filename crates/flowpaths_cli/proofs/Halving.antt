@@ -27,6 +27,7 @@ use Rattle.flowpaths_cli.specs.declared.searching.Attempt.TheVariants.{Found, Re
 use Rattle.flowpaths_cli.specs.Halved.{IsBetween, IsSpentBetween}
 use Rattle.flowpaths_cli.specs.Searched.{IsFoundFor, IsKnown, IsNoWorseThanBooked, IsRefutedBy, IsSpentBy, any_error}
 use Rattle.flowpaths_cli.proofs.Bounded.{entries_small, error-le}
+use Rattle.flowpaths_cli.proofs.PathsOnce.{paths_once}
 use Rattle.flowpaths_cli.proofs.Solved.{trail_for}
 
 -- the decision that asks for at most k paths with an error within a limit
@@ -38,6 +39,7 @@ known_by : (k : ℕ) (i : Instance) (d : Decision) (a : List (List ℕ × ℕ)) 
 known_by k i d a few same found = record {
   meets = (found.answer, found.covers, omega (arith, same, found.few));
   order = found.order;
+  once = found.once;
   small = λ n entry there. omega (arith, few, same, entries_small i.graph (d.slots * 1000000000000) a found.answer (λ e inside. found.light e) n entry there);
 }
 
@@ -123,6 +125,7 @@ booked_found k i f booked new (ps, is, books) answer covers few same merged kept
       few = omega (arith, short, few);
       within = tt;
       order = order;
+      once = paths_once new merged.once;
       light = λ e. omega (arith, kept e, ap (λ xs. weight_on xs e) is, units-le ps e, length-with_unit ps, ap length is, few);
     }
 

@@ -6,6 +6,7 @@ pub mod Inputs
 pub mod Accounts
 pub mod Bounded
 pub mod Widths
+pub mod PathsOnce
 pub mod CountedRight
 pub mod Solved
 pub mod TokenPlaces
@@ -24,3 +25,4 @@ pub mod Parsed
 pub mod OnWords
 pub mod WordSettings
 pub mod SafeLists
+pub mod Acceptance

@@ -13,3 +13,4 @@ pub mod Halved
 pub mod Crowds
 pub mod Run
 pub mod Reporting
+pub mod AcceptedReports
