@@ -1,5 +1,5 @@
 -- What is settled of a flow, and more along a path.
-use Rattle.std.proofs.Common.{◌≡◌, ℕ, ◌+◌, ◌-◌, ◌≤◌, ◌<◌, ◌^◌, ◌==◌, ◌&&◌, nat_le, cond, List, [], ◌∷◌, ◌++◌, true, false, length, length-append, get_or, slice_index, refl, sym, ap, subst, ◌∙◌, ⊎_elim, inl, inr, arith, leb-true, eqb-true}
+use Rattle.std.proofs.Common.{◌≡◌, ℕ, ◌+◌, ◌-◌, ◌≤◌, ◌<◌, ◌^◌, ◌==◌, ◌&&◌, nat_le, cond, List, [], ◌∷◌, ◌++◌, true, length, length-append, get_or, slice_index, sym, subst, ◌∙◌, inl, inr, arith, leb-true, eqb-true}
 use Rattle.std.specs.List.{list_all}
 use Rattle.std.specs.Prelude.{All}
 use Rattle.std.proofs.Math.ListN.{get_or-append}
@@ -13,7 +13,7 @@ use Rattle.decomposition.proofs.Members.{any-place}
 use Rattle.decomposition.proofs.Root.{all-place}
 use Rattle.greedy_paths.proofs.Decomposing.{path-enough, path-inside}
 use Rattle.flowpaths_cli.specs.declared.thin.Settling.{Settling}
-use Rattle.flowpaths_cli.specs.Room.{AreAtMost, FitsAlong, IsAddedAlong, IsFlowAbove, IsFlowIn, IsLeftOf, IsSettling}
+use Rattle.flowpaths_cli.specs.Room.{AreAtMost, FitsAlong, IsAddedAlong, IsFlowAbove, IsLeftOf, IsSettling}
 
 -- one edge more
 pub left-more : (n : ℕ) (flow settled left : List ℕ) (x : ℕ) → IsLeftOf n flow settled left → x ≡ slice_index flow n - slice_index settled n → IsLeftOf (n + 1) flow settled (left ++ x ∷ [])

@@ -1,5 +1,5 @@
 -- The raised ranges have a flow or none, or cannot be raised.
-use Rattle.std.proofs.Common.{ℕ, List, sym, subst}
+use Rattle.std.proofs.Common.{sym, subst}
 use Rattle.std.specs.Prelude.{MatchOption}
 use Rattle.flowpaths_cli.specs.Room.{AreRaised, IsPassed}
 use Rattle.flowpaths_cli.proofs.Raising.{above_if_ok, passed-none, raised-bounded}

@@ -1,5 +1,5 @@
 -- What is settled along the path fits the flow.
-use Rattle.std.proofs.Common.{◌≡◌, ℕ, ◌+◌, ◌≤◌, ◌<◌, List, length, slice_index, refl, sym, subst, arith}
+use Rattle.std.proofs.Common.{ℕ, ◌<◌, List, length, refl, sym, subst, arith}
 use Rattle.std.specs.Prelude.{All}
 use Rattle.greedy_paths.proofs.Decomposing.{path-inside}
 use Rattle.flowpaths_cli.specs.Room.{IsAddedAlong}

@@ -1,5 +1,5 @@
 -- The widest path of what is left fits over what is settled.
-use Rattle.std.proofs.Common.{◌≡◌, ℕ, List, length, slice_index, subst}
+use Rattle.std.proofs.Common.{◌≡◌, length, slice_index, subst}
 use Rattle.decomposition.specs.FirstAnswer.{IsWidest, path_width}
 use Rattle.flowpaths_cli.specs.Room.{IsLeftOf}
 use Rattle.flowpaths_cli.proofs.Thinning.{widest-fits}
