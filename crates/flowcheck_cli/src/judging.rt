@@ -15,7 +15,7 @@ use graph_text::{Block, Labels, RawGraph, Refusal};
 use path_report::{ReadFault, ReadRefusal, Report, read_report};
 use std::alloc::{AllocError, Global};
 
-/// What a text that begins at line `at` of the text of reports is answered for a block.
+/// What a text that begins at line `at` of the text of reports is answered for a block that the reader handed out.
 pub fn judge(
     alloc: Global,
     mode: Mode,
