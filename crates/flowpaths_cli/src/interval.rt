@@ -79,7 +79,7 @@ fn first_within(alloc: Global, net: &Net, problem: &Problem) -> Result<Within, A
             let other = answer_over(alloc, net, flow.as_slice(), copy_of(alloc, &booked)?)?;
             let thin = thin_flow(alloc, net, &problem.ranges, flow, &booked)?;
             let first = answer_over(alloc, net, thin.as_slice(), booked)?;
-            Ok(Within::First(Some(shorter(first, other))))
+            Ok(Within::First(Some(shorter(other, first))))
         }
         None => Ok(Within::First(None)),
     }

@@ -90,10 +90,6 @@ returns-in-Some c =
     let same = c.in_ok-copy_of-in-Some.ensures in
     let are = subst (λ (ws : List ℕ). AreBooked i.graph (slice_index ws) i.rules booked) is c.in_ok-booked.ensures.booked in (
       ⊎_elim
-          (λ (it : c.shorter.result ≡ c.in_ok-first-in-Some.first).
-          subst (λ (a : List (List ℕ × ℕ)). IsBeginning Interval i (Some a)) (sym it)
-          (interval_known built_on_booked_is_first i thin booked c.in_ok-first-in-Some.first c.requires.valid also.within.0 (flow_in i thin also.within) are c.in_ok-booked.ensures.covers c.in_ok-booked.ensures.few
-          thinly.sums thinly.order thinly.few thinly.keeps thinly.built))
           (λ (it : c.shorter.result ≡ c.in_ok-other-in-Some.other).
           subst (λ (a : List (List ℕ × ℕ)). IsBeginning Interval i (Some a)) (sym it)
           (interval_known built_on_booked_is_first i flow copy c.in_ok-other-in-Some.other c.requires.valid has.within.0 (flow_in i flow has.within)
@@ -101,6 +97,10 @@ returns-in-Some c =
           (subst (λ (b : List (List ℕ × ℕ)). Covers i.rules b) (sym same) c.in_ok-booked.ensures.covers)
           (subst (λ (b : List (List ℕ × ℕ)). length b ≤ length i.rules) (sym same) c.in_ok-booked.ensures.few)
           told.sums told.order told.few told.keeps told.built))
+          (λ (it : c.shorter.result ≡ c.in_ok-first-in-Some.first).
+          subst (λ (a : List (List ℕ × ℕ)). IsBeginning Interval i (Some a)) (sym it)
+          (interval_known built_on_booked_is_first i thin booked c.in_ok-first-in-Some.first c.requires.valid also.within.0 (flow_in i thin also.within) are c.in_ok-booked.ensures.covers c.in_ok-booked.ensures.few
+          thinly.sums thinly.order thinly.few thinly.keeps thinly.built))
           c.shorter.ensures.either,
       some_within (goal.at.returns-in-Some c).In-Flow,
     )
