@@ -5,7 +5,7 @@
 //!    along the path; otherwise the width of the path is.
 //! 3. This ends when each lower bound is settled, when no path is left, or after so many steps.
 //! 4. A flow that is at least what is settled, with as little more as the ranges ask for, is the answer.
-ghost use Rattle.std.specs.Prelude.{◌≡◌, ◌≢◌, ◌↔◌, ℕ, ◌+◌, ◌≤◌, ◌<◌, ◌^◌, ◌==◌, ◌&&◌, nat_le, length, slice_index, All, AllPairs, IfOk, IfSome, IsTrue};
+ghost use Rattle.std.specs.Prelude.{◌≡◌, ◌↔◌, ◌+◌, ◌≤◌, ◌<◌, ◌^◌, ◌==◌, ◌&&◌, nat_le, length, slice_index, All, IfOk, IsTrue};
 ghost use Rattle.std.specs.List.{list_all};
 ghost use Rattle.decomposition.specs.Answer.{IsAnswer};
 ghost use Rattle.decomposition.specs.Graph.{IsPath, edge_count};
