@@ -1,2 +1,3 @@
 mod Models
 mod TextCuts
+pub mod Answering

@@ -3,3 +3,4 @@ pub mod Handed
 pub mod Outcomes
 pub mod ReportTexts
 pub mod YesIsTrue
+pub mod RightReports
