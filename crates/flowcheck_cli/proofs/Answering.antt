@@ -1,9 +1,11 @@
 -- Reports that are right are answered by yes alone.
-use Rattle.std.proofs.Common.{◌≡◌, ◌+◌, ℕ, List, [], ◌∷◌, ◌++◌, length, refl, sym, ap, ap₂, ◌∙◌, subst, inl, inr, append-nil, arith, eq-eqb}
-use Rattle.std.specs.Prelude.{◌==◌, All, None, Result, Ok, Err}
-use Rattle.std.proofs.lemmas.Bool.{cond-true}
+use Rattle.std.proofs.Common.{◌≡◌, ◌+◌, ℕ, false, List, [], ◌∷◌, ◌++◌, length, refl, sym, ap, ap₂, ◌∙◌, subst, inl, inr, append-nil, arith, eq-eqb}
+use Rattle.std.specs.Prelude.{◌==◌, All, None, Result, Ok, Err, cond, not}
+use Rattle.std.specs.List.{list_any}
+use Rattle.std.proofs.lemmas.Bool.{cond-false, cond-true}
 use Rattle.std.proofs.lemmas.List.Elements.{All-head, All-tail}
 use Rattle.decomposition.specs.declared.Mode.{Mode}
+use Rattle.flow_io.specs.declared.status.Status.TheVariants.{Clean, Partial, Refused as SomeRefused}
 use Rattle.graph_text.specs.Blocks.{TextBlock, IsTextBlock, blocks}
 use Rattle.graph_text.specs.Labels.{AreLabels}
 use Rattle.graph_text.specs.Reading.{read}
@@ -20,11 +22,11 @@ use Rattle.path_report.proofs.Complete.{bad_lines_are_of_no_report, texts_are_of
 use Rattle.report_texts.specs.Laws.{Labelled, IsWritten, text_in}
 use Rattle.report_texts.proofs.Cutting.{first_texts_are_cut_off}
 use Rattle.report_texts.proofs.Models.{models_are_told}
-use Rattle.flowcheck_cli.specs.CheckLines.{AreOutcomes, counts_line, counts_line_if_other, outcome_line, outcome_lines}
+use Rattle.flowcheck_cli.specs.CheckLines.{AreOutcomes, counts_line, counts_line_if_other, is_unread, is_yes, outcome_line, outcome_lines, status_of, status_of_all}
 use Rattle.flowcheck_cli.specs.Handed.{labels_of}
 use Rattle.flowcheck_cli.specs.Outcomes.{Asked, asked_of, BodyFailsAt, IsOutcome, IsRightBody, IsRightReport, ReportFailsAt}
 use Rattle.flowcheck_cli.specs.ReportTexts.{line_count, model_in, report_texts}
-use Rattle.flowcheck_cli.specs.RightReports.{AreRightReports, all_yes, yes_lines, RightReportsAreAnsweredYes}
+use Rattle.flowcheck_cli.specs.RightReports.{AreRightReports, all_yes, yes_lines, RightReportsAreAnsweredYes, RightReportsAreClean}
 use Rattle.flowcheck_cli.specs.declared.outcome.Outcome.{Outcome}
 use Rattle.flowcheck_cli.specs.declared.outcome.Outcome.TheVariants.{Yes, No, Unread}
 
@@ -137,3 +139,23 @@ right_reports_are_answered_yes mode graphs text reports outcomes printed right =
         lines_are = printed_is ∙ sym (ap (λ os. outcome_lines shown os ++ counts_line_if_other (length shown) n) all ∙ lines);
       },
     )
+
+none-unread : (shown : List TextBlock) → list_any is_unread (all_yes shown) ≡ false
+none-unread [] = refl
+none-unread (block ∷ shown) = none-unread shown
+
+none-other : (shown : List TextBlock) → list_any (λ outcome. not (is_yes outcome)) (all_yes shown) ≡ false
+none-other [] = refl
+none-other (block ∷ shown) = none-other shown
+
+status-yes : (shown : List TextBlock) (n : ℕ) → length shown ≡ n → status_of_all (length shown) n (all_yes shown) ≡ Clean
+status-yes shown n same =
+    let outcomes = all_yes shown in
+    let other = list_any (λ outcome. not (is_yes outcome)) outcomes in
+    cond-true (length shown == n) (status_of outcomes) SomeRefused (eq-eqb (length shown) n same)
+    ∙ cond-false (list_any is_unread outcomes) SomeRefused (cond other Partial Clean) (none-unread shown)
+    ∙ cond-false other Partial Clean (none-other shown)
+
+pub right_reports_are_clean : RightReportsAreClean
+right_reports_are_clean mode graphs text reports right =
+    status-yes (blocks graphs) (length (report_texts text)) (answered-told mode (blocks graphs) reports text [] (blocks-each graphs) right).count

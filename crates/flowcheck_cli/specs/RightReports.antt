@@ -1,13 +1,15 @@
 -- Reports that are right for the blocks of a graph text, and what is answered for them.
-use Rattle.std.specs.Prelude.{◌≡◌, ◌↔◌, ℕ, List, [], ◌∷◌, ◌++◌, flat_map, map}
+use Rattle.std.specs.Prelude.{◌≡◌, ◌↔◌, ℕ, List, [], ◌∷◌, ◌++◌, flat_map, length, map}
 use Rattle.decomposition.specs.declared.Mode.{Mode}
+use Rattle.flow_io.specs.declared.status.Status.TheVariants.{Clean}
 use Rattle.graph_text.specs.Blocks.{TextBlock, blocks}
 use Rattle.graph_text.specs.Reading.{read}
 use Rattle.path_report.specs.BadLines.{IsTextOf}
 use Rattle.path_report.specs.declared.report.Report.{Report}
-use Rattle.flowcheck_cli.specs.CheckLines.{IsPrinted, outcome_line}
+use Rattle.flowcheck_cli.specs.CheckLines.{IsPrinted, outcome_line, status_of_all}
 use Rattle.flowcheck_cli.specs.Handed.{labels_of}
 use Rattle.flowcheck_cli.specs.Outcomes.{IsRightReport, asked_of}
+use Rattle.flowcheck_cli.specs.ReportTexts.{report_texts}
 use Rattle.flowcheck_cli.specs.declared.outcome.Outcome.{Outcome}
 use Rattle.flowcheck_cli.specs.declared.outcome.Outcome.TheVariants.{Yes}
 
@@ -32,3 +34,9 @@ abbrev pub RightReportsAreAnsweredYes : Type 0
 RightReportsAreAnsweredYes =
     (mode : Mode) (graphs text : List ℕ) (reports : List Report) (outcomes : List Outcome) (printed : List ℕ) → AreRightReports mode (blocks graphs) reports text
     → IsPrinted graphs text outcomes printed ↔ ((outcomes ≡ all_yes (blocks graphs)) × (printed ≡ yes_lines (blocks graphs)))
+
+-- and the status of a yes for each block is clean
+abbrev pub RightReportsAreClean : Type 0
+RightReportsAreClean =
+    (mode : Mode) (graphs text : List ℕ) (reports : List Report) → AreRightReports mode (blocks graphs) reports text
+    → status_of_all (length (blocks graphs)) (length (report_texts text)) (all_yes (blocks graphs)) ≡ Clean
