@@ -5,7 +5,7 @@ use Rattle.std.proofs.lemmas.Bool.{cond-true, cond-false}
 use Rattle.std.proofs.lemmas.List.{drop-drop, take_all, drop_all, length-take-le}
 use Rattle.std.proofs.Math.Seq.{take-add}
 use Rattle.graph_text.specs.Lines.{onto_first}
-use Rattle.flowcheck_cli.specs.ReportTexts.{ended_lines, end_line, before_first, texts_in, report_texts}
+use Rattle.flowcheck_cli.specs.ReportTexts.{ended_lines, end_line, before_first_text, texts_in, report_texts}
 
 -- bytes with their first line feed at place n are a line and the lines behind it
 pub line-cut : (bytes : List ℕ) (n : ℕ) → ((k : ℕ) → k < n → (get_or bytes k 0 == 10) ≡ false) → n < length bytes → (get_or bytes n 0 == 10) ≡ true →
@@ -34,9 +34,9 @@ line-whole bytes some none =
 -- bytes of whole lines before the first of the texts, where there are any
 abbrev pub glued : List ℕ → List (List ℕ) → List (List ℕ)
 glued [] texts = texts
-glued (b ∷ bytes) texts = before_first (b ∷ bytes) texts
+glued (b ∷ bytes) texts = before_first_text (b ∷ bytes) texts
 
-glued-before : (front l : List ℕ) (texts : List (List ℕ)) → 0 < length l → glued front (before_first l texts) ≡ glued (front ++ l) texts
+glued-before : (front l : List ℕ) (texts : List (List ℕ)) → 0 < length l → glued front (before_first_text l texts) ≡ glued (front ++ l) texts
 glued-before [] [] texts some = absurd (omega (arith, some))
 glued-before [] (b ∷ l) texts some = refl
 glued-before (a ∷ front) l [] some = refl
@@ -63,7 +63,7 @@ pub begins-more : (bytes : List ℕ) (n m : ℕ) → BeginsText bytes n → IsLi
     bytes_eq (take m (drop n bytes)) end_line ≡ false → BeginsText bytes (n + m)
 begins-more bytes n m begins first some other =
     let rest = drop n bytes in
-    let texts : report_texts rest ≡ before_first (take m rest) (report_texts (drop m rest)) = ap texts_in first ∙ cond-false (bytes_eq (take m rest) end_line) _ _ other in
+    let texts : report_texts rest ≡ before_first_text (take m rest) (report_texts (drop m rest)) = ap texts_in first ∙ cond-false (bytes_eq (take m rest) end_line) _ _ other in
     begins ∙ ap (glued (take n bytes)) texts ∙ glued-before (take n bytes) (take m rest) (report_texts (drop m rest)) some
     ∙ ap (λ front. glued front (report_texts (drop m rest))) (sym (take-add n m bytes))
     ∙ ap (λ left. glued (take (n + m) bytes) (report_texts left)) (drop-drop m n bytes)

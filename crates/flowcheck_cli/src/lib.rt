@@ -2,6 +2,7 @@
 #![tactic(auto)]
 
 mod digits;
+pub mod examples;
 mod judging;
 mod laws;
 mod model;
@@ -10,6 +11,7 @@ mod printing;
 mod rest;
 mod right_reports;
 mod short_line;
+mod verdicts;
 
 pub use judging::judge;
 pub use laws::yes_is_true;
