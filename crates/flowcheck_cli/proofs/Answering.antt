@@ -8,7 +8,9 @@ use Rattle.decomposition.specs.declared.Mode.{Mode}
 use Rattle.flow_io.specs.declared.status.Status.TheVariants.{Clean, Partial, Refused as SomeRefused}
 use Rattle.graph_text.specs.Blocks.{TextBlock, IsTextBlock, blocks}
 use Rattle.graph_text.specs.Labels.{AreLabels}
+use Rattle.graph_text.specs.Reader.{handed}
 use Rattle.graph_text.specs.Reading.{read}
+use Rattle.graph_text.specs.declared.block.Block.{Block}
 use Rattle.graph_text.specs.declared.block.RawGraph.{RawGraph}
 use Rattle.graph_text.specs.declared.refusal.Refusal.{Refusal}
 use Rattle.graph_text.proofs.Accepting.{graphs_are_accepted}
@@ -24,7 +26,7 @@ use Rattle.report_texts.proofs.Cutting.{first_texts_are_cut_off}
 use Rattle.report_texts.proofs.Models.{models_are_told}
 use Rattle.flowcheck_cli.specs.CheckLines.{AreOutcomes, counts_line, counts_line_if_other, is_unread, is_yes, outcome_line, outcome_lines, status_of, status_of_all}
 use Rattle.flowcheck_cli.specs.Handed.{labels_of}
-use Rattle.flowcheck_cli.specs.Outcomes.{Asked, asked_of, BodyFailsAt, IsOutcome, IsRightBody, IsRightReport, ReportFailsAt}
+use Rattle.flowcheck_cli.specs.Outcomes.{BodyFailsAt, IsOutcome, IsRightBody, IsRightReport, ReportFailsAt}
 use Rattle.flowcheck_cli.specs.ReportTexts.{line_count, model_in, report_texts}
 use Rattle.flowcheck_cli.specs.RightReports.{AreRightReports, all_yes, yes_lines, RightReportsAreAnsweredYes, RightReportsAreClean}
 use Rattle.flowcheck_cli.specs.declared.outcome.Outcome.{Outcome}
@@ -44,18 +46,18 @@ body-right mode (Err refusal) body n right fails = fails.0 right
 body-right mode (Ok graph) (Refused refusal) n right fails = right
 body-right mode (Ok graph) (SolvedBody s) n right fails = fails.fails (right fails.line)
 
-report-right : (mode : Mode) (asked : Asked) (report : Report) (n : ℕ) → IsRightReport mode asked report → ReportFailsAt mode asked report n → ⊥
-report-right mode asked report n right (inl at_block) = elim at_block.other [ inl index ↦ index right.names.index_is | inr name ↦ name right.names.name_is ]
-report-right mode asked report n right (inr (inl at_model)) = at_model.other right.mode_is
-report-right mode asked report n right (inr (inr in_body)) = body-right mode asked.body report.body n right.body in_body.body
+report-right : (mode : Mode) (block : Block) (report : Report) (n : ℕ) → IsRightReport mode block report → ReportFailsAt mode block report n → ⊥
+report-right mode block report n right (inl at_block) = elim at_block.0 [ inl index ↦ index right.names.index_is | inr name ↦ name right.names.name_is ]
+report-right mode block report n right (inr (inl at_model)) = at_model.other right.mode_is
+report-right mode block report n right (inr (inr in_body)) = body-right mode block.body report.body n right.body in_body.body
 
 -- the outcome for the text of a right report is yes
 only-yes : (mode : Mode) (block : TextBlock) (at : ℕ) (text : List ℕ) (report : Report) (outcome : Outcome) → IsTextBlock block → IsTextOf (labels_of (read mode block)) report text
-    → IsRightReport mode (asked_of mode block) report → IsOutcome mode block at text outcome → outcome ≡ Yes
+    → IsRightReport mode (handed mode block) report → IsOutcome mode block at text outcome → outcome ≡ Yes
 only-yes mode block at text report Yes is spelled right h = refl
-only-yes mode block at text report (No line) is spelled right (other, also, no') =
+only-yes mode block at text report (No line) is spelled right (other, also, (n, fails, line_is)) =
     let same : other ≡ report = texts_are_of_one_report (labels_of (read mode block)) other report text (labels-are mode block is) also spelled in
-    absurd (report-right mode (asked_of mode block) report no'.place right (subst (λ r. ReportFailsAt mode (asked_of mode block) r no'.place) same no'.fails))
+    absurd (report-right mode (handed mode block) report n right (subst (λ r. ReportFailsAt mode (handed mode block) r n) same fails))
 only-yes mode block at text report (Unread line why) is spelled right (n, bad, line_is) =
     let none : first_bad_line (labels_of (read mode block)) text ≡ None =
     (bad_lines_are_of_no_report (labels_of (read mode block)) text (labels-are mode block is)).1 (report, spelled) in
@@ -67,7 +69,7 @@ record FirstText (mode : Mode) (text first rest : List ℕ) : Type 0 where
   told : model_in text ≡ mode
 
 first-text : (mode : Mode) (block : TextBlock) (report : Report) (text first rest : List ℕ) → IsTextBlock block → text ≡ first ++ rest
-    → IsTextOf (labels_of (read mode block)) report first → IsRightReport mode (asked_of mode block) report → FirstText mode text first rest
+    → IsTextOf (labels_of (read mode block)) report first → IsRightReport mode (handed mode block) report → FirstText mode text first rest
 first-text mode block report text first rest is joined spelled right =
     let entry : Labelled = record { labels = labels_of (read mode block); report = report } in
     let written : IsWritten entry = record { labels = labels-are mode block is; regular = spelled.regular } in

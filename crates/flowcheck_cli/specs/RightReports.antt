@@ -3,12 +3,13 @@ use Rattle.std.specs.Prelude.{◌≡◌, ◌↔◌, ℕ, List, [], ◌∷◌, �
 use Rattle.decomposition.specs.declared.Mode.{Mode}
 use Rattle.flow_io.specs.declared.status.Status.TheVariants.{Clean}
 use Rattle.graph_text.specs.Blocks.{TextBlock, blocks}
+use Rattle.graph_text.specs.Reader.{handed}
 use Rattle.graph_text.specs.Reading.{read}
 use Rattle.path_report.specs.BadLines.{IsTextOf}
 use Rattle.path_report.specs.declared.report.Report.{Report}
 use Rattle.flowcheck_cli.specs.CheckLines.{IsPrinted, outcome_line, status_of_all}
 use Rattle.flowcheck_cli.specs.Handed.{labels_of}
-use Rattle.flowcheck_cli.specs.Outcomes.{IsRightReport, asked_of}
+use Rattle.flowcheck_cli.specs.Outcomes.{IsRightReport}
 use Rattle.flowcheck_cli.specs.ReportTexts.{report_texts}
 use Rattle.flowcheck_cli.specs.declared.outcome.Outcome.{Outcome}
 use Rattle.flowcheck_cli.specs.declared.outcome.Outcome.TheVariants.{Yes}
@@ -19,7 +20,7 @@ AreRightReports mode [] [] text = text ≡ []
 AreRightReports mode [] (report ∷ reports) text = ⊥
 AreRightReports mode (block ∷ others) [] text = ⊥
 AreRightReports mode (block ∷ others) (report ∷ reports) text = (first : List ℕ) × (rest : List ℕ) × (text ≡ first ++ rest)
-    × IsTextOf (labels_of (read mode block)) report first × IsRightReport mode (asked_of mode block) report × AreRightReports mode others reports rest
+    × IsTextOf (labels_of (read mode block)) report first × IsRightReport mode (handed mode block) report × AreRightReports mode others reports rest
 
 -- a yes for each block
 abbrev pub all_yes : List TextBlock → List Outcome
