@@ -4,3 +4,4 @@ mod Models
 mod Problems
 mod ReportSizes
 mod TextCuts
+pub mod Answering

@@ -4,3 +4,4 @@ pub mod Outcomes
 pub mod ReportTexts
 pub mod Short
 pub mod YesIsTrue
+pub mod RightReports

@@ -9,6 +9,7 @@ mod model;
 mod outcome;
 mod printing;
 mod rest;
+mod right_reports;
 mod short_line;
 mod verdicts;
 
@@ -18,3 +19,4 @@ pub use model::model_in;
 pub use outcome::{Outcome, status_after};
 pub use printing::{write_counts, write_outcome};
 pub use rest::{Rest, Text};
+pub use right_reports::{right_reports_are_answered_yes, right_reports_are_clean};

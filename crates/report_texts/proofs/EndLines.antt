@@ -28,7 +28,7 @@ use Rattle.path_report.specs.declared.report.Report.{Report}
 use Rattle.path_report.specs.declared.report.Solved.{Solved}
 use Rattle.path_report.specs.declared.report.Trail.{Trail}
 use Rattle.path_report.proofs.GoodFields.{field-clean}
-use Rattle.report_texts.specs.ReportTexts.{ended_lines, end_line, before_first, texts_in, report_texts}
+use Rattle.report_texts.specs.ReportTexts.{ended_lines, end_line, before_first_text, texts_in, report_texts}
 use Rattle.report_texts.proofs.EndedLines.{has_feed, ended_lines-line, join-feed, feed-more, feed-one, decimal-no_feed}
 
 -- the text goes before the first text of what stands behind it
@@ -63,8 +63,8 @@ before-line fields none starts =
           let behind = texts_in (ended_lines rest) in
           ap report_texts (append_assoc l (10 ∷ []) rest)
           ∙ ap texts_in (ended_lines-line l rest no_feed)
-          ∙ cond-false (bytes_eq (line fields) end_line) (line fields ∷ behind) (before_first (line fields) behind) other
-          ∙ ap (before_first (line fields)) h;
+          ∙ cond-false (bytes_eq (line fields) end_line) (line fields ∷ behind) (before_first_text (line fields) behind) other
+          ∙ ap (before_first_text (line fields)) h;
     }
 
 -- names and numbers have no line feed

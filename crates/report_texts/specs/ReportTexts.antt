@@ -17,14 +17,14 @@ abbrev pub end_line : List ℕ
 end_line = line (codes "end" ∷ [])
 
 -- a line goes before the first of the texts
-abbrev pub before_first : List ℕ → List (List ℕ) → List (List ℕ)
-before_first l [] = l ∷ []
-before_first l (text ∷ texts) = (l ++ text) ∷ texts
+abbrev pub before_first_text : List ℕ → List (List ℕ) → List (List ℕ)
+before_first_text l [] = l ∷ []
+before_first_text l (text ∷ texts) = (l ++ text) ∷ texts
 
 -- the texts of these lines: each ends with a line `end`, and what stands after the last such line is one more
 abbrev pub texts_in : List (List ℕ) → List (List ℕ)
 texts_in [] = []
-texts_in (l ∷ lines) = let rest = texts_in lines in if bytes_eq l end_line then l ∷ rest else before_first l rest
+texts_in (l ∷ lines) = let rest = texts_in lines in if bytes_eq l end_line then l ∷ rest else before_first_text l rest
 
 -- the texts of a text of reports
 abbrev pub report_texts : List ℕ → List (List ℕ)
