@@ -1,6 +1,7 @@
 //! Trials of the top call and of the calls below it, over inputs and outputs in memory.
 #![tactic(auto)]
 
+mod answered;
 #[cfg(test)]
 mod booked;
 #[cfg(test)]
@@ -38,4 +39,5 @@ mod trees;
 #[cfg(test)]
 mod words;
 
+pub use answered::outputs_are_answered_yes;
 pub use runs::{Ran, run, run_on};
