@@ -2,6 +2,8 @@
 #![tactic(auto)]
 
 #[cfg(test)]
+mod blocks;
+#[cfg(test)]
 mod booked;
 #[cfg(test)]
 mod bounds;
@@ -22,6 +24,7 @@ mod models;
 #[cfg(test)]
 mod problems;
 #[cfg(test)]
+mod readings;
 #[cfg(test)]
 mod reports;
 #[cfg(test)]
