@@ -3,6 +3,8 @@
 
 mod answered;
 #[cfg(test)]
+mod blocks;
+#[cfg(test)]
 mod booked;
 #[cfg(test)]
 mod bounds;
@@ -23,6 +25,7 @@ mod models;
 #[cfg(test)]
 mod problems;
 #[cfg(test)]
+mod readings;
 #[cfg(test)]
 mod reports;
 #[cfg(test)]
