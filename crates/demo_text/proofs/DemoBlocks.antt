@@ -15,7 +15,7 @@ use Rattle.graph_text.specs.Blocks.{TextBlock, blocks, groups, graphs, numbered}
 use Rattle.graph_text.specs.Reading.{distinct, line_at, read}
 use Rattle.demo_text.specs.declared.path.DemoPath.{DemoPath}
 use Rattle.demo_text.specs.Accepted.{IsPlain, BlocksAreAccepted}
-use Rattle.demo_text.specs.Demo.{next_state, drawn, paths_after, after_paths, edges_along, same_names, edges_used, weight_on, vertices_used, both_ends, edge_line, block_lines, lines_from, text_of}
+use Rattle.demo_text.specs.Demo.{next_state, drawn, paths_after, after_paths, edges_along, same_names, edges_used, weight_on, vertices_used, both_ends, edge_line, block_lines, lines_from, text_of, demo_text}
 use Rattle.demo_text.proofs.PlainLines.{IsLine, IsLine-word, IsLine-append, IsWord, IsWord-decimal, fields-one, fields-three, lines_of-text}
 use Rattle.demo_text.proofs.PathsDrawn.{length-paths_after}
 use Rattle.demo_text.proofs.GatheredUses.{same_names-Decides}
@@ -199,6 +199,7 @@ so_many_blocks n x low =
     (ap length are ∙ numbered-length (suc n) 1 x 1 1, subst (All IsPlain) (sym are) (numbered-read (suc n) 1 x 1 1 (omega arith)))
 
 pub blocks_are_accepted : BlocksAreAccepted
+unfolding demo_text
 blocks_are_accepted seed = so_many_blocks 39 seed (omega arith)
 
 -- the text is short
