@@ -1,6 +1,6 @@
 -- A block of a comment, a count and edge lines is read as a graph.
-use Rattle.std.proofs.Common.{◌≡◌, ℕ, ◌<◌, ◌≤◌, ◌^◌, Bool, true, false, not, List, [], ◌∷◌, ◌++◌, map, filter, length, drop, take, get_or, refl, sym, ap, subst, ◌∙◌, arith}
-use Rattle.std.specs.Prelude.{All, ◌==◌, nat_lt, flat_map, decimal, sum_by, cond, None, IsOk}
+use Rattle.std.proofs.Common.{◌≡◌, ℕ, ◌<◌, ◌≤◌, ◌^◌, Bool, true, false, not, List, [], ◌∷◌, ◌++◌, map, filter, length, drop, take, get_or, sym, ap, subst, ◌∙◌, arith}
+use Rattle.std.specs.Prelude.{All, ◌==◌, nat_lt, flat_map, decimal, sum_by, cond, None, IsOkAnd}
 use Rattle.std.specs.List.{enumerate_from, list_all, IsDistinct}
 use Rattle.std.proofs.lemmas.Bool.{cond-false, ne_eqb, le-ltb}
 use Rattle.std.proofs.lemmas.List.{drop_all, length-map}
@@ -11,7 +11,7 @@ use Rattle.decomposition.specs.Graph.{graph_of, edge_count, below}
 use Rattle.graph_text.specs.declared.refusal.Why.TheVariants.{LongLine, BadCount, BadFields, BadWeight, BadRange, RepeatedEdge, TooManyEdges, TooManyConstraints, ShortConstraint, Cycle, UnknownEdge, Unconserved}
 use Rattle.graph_text.specs.declared.block.RawGraph.{RawGraph}
 use Rattle.graph_text.specs.Lines.{are_no_fields, are_hash_fields, are_run_fields}
-use Rattle.graph_text.specs.Reading.{Line, line_at, numbered_lines, filled_lines, content_lines, run_lines, count_lines, edge_lines, listed, ends_of, last_fields, is_weight, is_count, range_of, refused, long_lines, last_filled, bad_counts, repeats, is_short, first_listed, constraint_lines, line_refusals, names_of, edge_of, distinct, raw_graph_of, has_unknown, lines_naming, closes_cycle, cycle_lines, unknown_lines, unconserved_lines, is_unbalanced, earliest, or_else, err_or, refusal_of, read_lines}
+use Rattle.graph_text.specs.Reading.{Line, line_at, numbered_lines, filled_lines, content_lines, run_lines, count_lines, edge_lines, listed, ends_of, last_fields, is_weight, is_count, range_of, refused, long_lines, last_filled, bad_counts, repeats, is_short, first_listed, constraint_lines, line_refusals, names_of, edge_of, distinct, raw_graph_of, has_unknown, lines_naming, closes_cycle, cycle_lines, unknown_lines, unconserved_lines, is_unbalanced, earliest, or_else, err_or, refusal_of, read_lines, run_of, edges_of}
 use Rattle.graph_text.proofs.Finishing.{lines_where-none}
 use Rattle.demo_text.specs.Demo.{same_names}
 use Rattle.demo_text.proofs.PlainLines.{IsWord, IsWord-decimal}
@@ -148,6 +148,9 @@ module _ (h c : Line) (header : IsHeader h) (count : IsCount c) (n : ℕ) (weigh
       let inside : e < edge_count (net_of es) = omega (arith, within, same-count, ap edge_count net-is) in
       ap (λ g. closes_cycle g e) net-is ∙ closes-none es each e inside)
 
+  no_runs : graph.runs ≡ []
+  no_runs = ap (map (λ l. run_of (names_of all) (edges_of all) (listed l))) (no_constraint h c edge_part header count (edge_lines-each weight small n es each))
+
   no_unknown : unknown_lines graph all ≡ []
   no_unknown = ap (filter (λ (l : Line). has_unknown graph.labels.names graph.labels.edges (listed l))) runs-none
 
@@ -165,9 +168,9 @@ module _ (h c : Line) (header : IsHeader h) (count : IsCount c) (n : ℕ) (weigh
         length-map (enumerate_from n (map (line_with weight) es)) line_at ∙ length-enumerate_from n (map (line_with weight) es) ∙ length-map es (line_with weight)
 
     -- the lines are read as a graph
-    pub is-read : IsOk (read_lines Exact all)
+    pub is-read : IsOkAnd (read_lines Exact all) (λ graph. graph.runs ≡ [])
     is-read =
         let lines-none = none-refused h c edge_part header count (edge_lines-each weight small n es each) (omega (arith, edge-count, few)) (lines-once weight small n es each once) in
         let none : refusal_of Exact all graph ≡ None =
         (λ i. or_else (earliest (lines-none i)) (or_else (earliest (refused Cycle (no_cycle i))) (or_else (earliest (refused UnknownEdge (no_unknown i))) (earliest (refused Unconserved (no_unbalanced i)))))) in
-        subst (λ r. IsOk (err_or r graph)) (sym none) refl
+        subst (λ r. IsOkAnd (err_or r graph) (λ g. g.runs ≡ [])) (sym none) no_runs

@@ -1,26 +1,26 @@
 -- The blocks of the generated text, and that each is read as a graph.
-use Rattle.std.proofs.Common.{◌≡◌, ℕ, zero, suc, ◌+◌, ◌*◌, ◌/◌, ◌<◌, ◌≤◌, Bool, true, false, not, List, [], ◌∷◌, ◌++◌, map, filter, length, drop, get_or, refl, sym, ap, subst, ◌∙◌, arith, length-append}
-use Rattle.std.specs.Prelude.{All, flat_map, codes, decimal, IsOk, take_while}
+use Rattle.std.proofs.Common.{◌≡◌, ℕ, zero, suc, ◌+◌, ◌*◌, ◌/◌, ◌<◌, ◌≤◌, Bool, true, false, not, List, [], ◌∷◌, ◌++◌, map, filter, length, drop, get_or, refl, sym, ap, subst, ◌∙◌, arith, length-append, ◌^◌}
+use Rattle.std.specs.Prelude.{All, flat_map, codes, decimal, take_while}
 use Rattle.std.specs.List.{list_any}
 use Rattle.std.specs.Str.{bytes_eq}
 use Rattle.std.proofs.lemmas.Bool.{cond_both}
 use Rattle.std.proofs.lemmas.Fmt.{length-decimal-le}
 use Rattle.std.proofs.lemmas.Nat.{mod_below}
-use Rattle.std.proofs.lemmas.List.{get_or_append_left}
-use Rattle.std.proofs.lemmas.List.Elements.{All-nil, All-cons, All-append, All-map, All-weaker}
+use Rattle.std.proofs.lemmas.List.{length-map, get_or_append_left}
+use Rattle.std.proofs.lemmas.List.Elements.{All-nil, All-cons, All-append, All-map, All-weaker, All-head, All-tail}
 use Rattle.std.proofs.lemmas.List.Folds.{list_any_at}
-use Rattle.decomposition.specs.declared.Mode.TheVariants.{Exact}
 use Rattle.graph_text.specs.Lines.{is_blank_line}
 use Rattle.graph_text.specs.Blocks.{TextBlock, blocks, groups, graphs, numbered}
-use Rattle.graph_text.specs.Reading.{distinct, line_at, read}
+use Rattle.graph_text.specs.Reading.{distinct, line_at}
 use Rattle.demo_text.specs.declared.path.DemoPath.{DemoPath}
-use Rattle.demo_text.specs.Accepted.{BlocksAreAccepted}
-use Rattle.demo_text.specs.Demo.{next_state, drawn, paths_after, after_paths, edges_along, same_names, edges_used, weight_on, vertices_used, both_ends, edge_line, block_lines, lines_from, text_of}
+use Rattle.demo_text.specs.Accepted.{IsPlain, BlocksAreAccepted}
+use Rattle.demo_text.specs.Demo.{next_state, drawn, paths_after, after_paths, edges_along, same_names, edges_used, weight_on, vertices_used, both_ends, edge_line, block_lines, lines_from, text_of, demo_text}
 use Rattle.demo_text.proofs.PlainLines.{IsLine, IsLine-word, IsLine-append, IsWord, IsWord-decimal, fields-one, fields-three, lines_of-text}
 use Rattle.demo_text.proofs.PathsDrawn.{length-paths_after}
 use Rattle.demo_text.proofs.GatheredUses.{same_names-Decides}
 use Rattle.demo_text.proofs.EdgesAlong.{IsSmall, IsDemoEdge, paths_after-small, edges_used-each, edges_used-few, first_uses-once, first_uses-has, weight_on-small}
 use Rattle.demo_text.proofs.BalancedUses.{AreThere, balanced}
+use Rattle.demo_text.proofs.EdgeLines.{length-of_line}
 use Rattle.demo_text.proofs.BlockReads.{IsHeader, IsCount, is-read}
 use Rattle.demo_text.proofs.LineGroups.{IsContentLine, content-line, AreContents, groups_from, groups-are, graphs-are, lead-none}
 
@@ -63,6 +63,10 @@ along-each P (p ∷ paths) each =
     (λ k d within. subst P (get_or_append_left xs ys d k within) (each k d (omega (arith, within, length-append xs ys))))
     (along-each P paths
     (λ k d within. each (suc (suc (suc k))) d (omega (arith, within, length-append xs ys))))
+
+-- a line of few bytes
+abbrev IsShort : List ℕ → Type 0
+IsShort line = length line ≤ 65536
 
 module _ (paths : List DemoPath) (are : ArePaths paths) where
   abbrev es : List (List ℕ × List ℕ)
@@ -115,7 +119,7 @@ module _ (paths : List DemoPath) (are : ArePaths paths) where
         es each),
   )
 
-  block-read : (index number line : ℕ) → number ≤ 100 → IsOk (read Exact (record { index = index; line = line; lines = block_lines number paths }))
+  block-read : (index number line : ℕ) → number ≤ 100 → IsPlain (record { index = index; line = line; lines = block_lines number paths })
   block-read index number line low =
       let m = length (vertices_used paths) in
       let vertices = few-vertices in
@@ -135,6 +139,21 @@ module _ (paths : List DemoPath) (are : ArePaths paths) where
       (λ test source sink. balanced es (first_uses-once (flat_map edges_along paths)) test source sink paths there)
       (omega (arith, few)) (first_uses-once (flat_map edges_along paths))
 
+module _ (paths : List DemoPath) (are : ArePaths paths) where
+  -- the lines of a block are few, and short
+  few-lines : (index : ℕ) → length (block_lines index paths) ≤ 17
+  few-lines index = omega (arith, few paths are, length-map (edges_used paths) (edge_line paths))
+
+  short-lines : (index : ℕ) → index ≤ 100 → All IsShort (block_lines index paths)
+  short-lines index low =
+      let m = length (vertices_used paths) in
+      let vertices = few-vertices paths are in
+      All-cons IsShort (codes "# demo " ++ decimal index) (decimal m ∷ map (edge_line paths) (edges_used paths))
+      (omega (arith, length-append (codes "# demo ") (decimal index), length-decimal-le 3 index (omega arith) (omega arith) (omega arith)))
+      (All-cons IsShort (decimal m) (map (edge_line paths) (edges_used paths)) (omega (arith, length-decimal-le 2 m (omega arith) (omega arith) (omega arith)))
+      (All-map IsShort (edge_line paths) (edges_used paths)
+      (All-weaker IsDemoEdge (λ e. IsShort (edge_line paths e)) (length-of_line (weight_on paths) (small paths are)) (edges_used paths) (each paths are))))
+
 contents : (x : ℕ) → AreContents x
 contents x = block-contents (paths_after (2 + drawn 4 (next_state x)) (next_state x)) (paths_after-are (next_state x))
 
@@ -150,12 +169,12 @@ numbered-length : (n index x number line : ℕ) → length (numbered number line
 numbered-length zero index x number line = refl
 numbered-length (suc n) index x number line = ap suc (numbered-length n (index + 1) _ (number + 1) _)
 
-numbered-read : (n index x number line : ℕ) → n + index ≤ 100 → All (λ block. IsOk (read Exact block)) (numbered number line (groups_from n index x))
-numbered-read zero index x number line low = All-nil (λ block. IsOk (read Exact block))
+numbered-read : (n index x number line : ℕ) → n + index ≤ 100 → All IsPlain (numbered number line (groups_from n index x))
+numbered-read zero index x number line low = All-nil IsPlain
 numbered-read (suc n) index x number line low =
     let y = next_state x in
     let paths = paths_after (2 + drawn 4 y) y in
-    All-cons (λ block. IsOk (read Exact block)) (record { index = number; line = line; lines = block_lines index paths })
+    All-cons IsPlain (record { index = number; line = line; lines = block_lines index paths })
     (numbered (number + 1) (line + length (block_lines index paths)) (groups_from n (index + 1) (after_paths (2 + drawn 4 y) y)))
     (block-read paths (paths_after-are y) number index line (omega arith))
     (numbered-read n (index + 1) (after_paths (2 + drawn 4 y) y) (number + 1) (line + length (block_lines index paths)) (omega arith))
@@ -173,10 +192,37 @@ blocks-are n x low =
     ∙ ap (λ gs. numbered 1 1 (graphs gs)) (groups-are contents n 1 x)
     ∙ ap (numbered 1 1) (graphs-are contents (suc n) 1 x)
 
-so_many_blocks : (n x : ℕ) → n < 99 → (length (blocks (text_of (lines_from (suc n) 1 x))) ≡ suc n) × All (λ block. IsOk (read Exact block)) (blocks (text_of (lines_from (suc n) 1 x)))
+so_many_blocks : (n x : ℕ) → n < 99 → (length (blocks (text_of (lines_from (suc n) 1 x))) ≡ suc n) × All IsPlain (blocks (text_of (lines_from (suc n) 1 x)))
 so_many_blocks n x low =
     let are = blocks-are n x low in
-    (ap length are ∙ numbered-length (suc n) 1 x 1 1, subst (All (λ block. IsOk (read Exact block))) (sym are) (numbered-read (suc n) 1 x 1 1 (omega arith)))
+    (ap length are ∙ numbered-length (suc n) 1 x 1 1, subst (All IsPlain) (sym are) (numbered-read (suc n) 1 x 1 1 (omega arith)))
 
 pub blocks_are_accepted : BlocksAreAccepted
+unfolding demo_text
 blocks_are_accepted seed = so_many_blocks 39 seed (omega arith)
+
+-- the text is short
+short-text : (lines : List (List ℕ)) → All IsShort lines → length (text_of lines) ≤ 65537 * length lines
+short-text [] each = omega arith
+short-text (line ∷ lines) each =
+    omega (arith, length-append (line ++ codes "\n") (text_of lines), length-append line (codes "\n"), All-head IsShort line lines each, short-text lines (All-tail IsShort line lines each))
+
+short-from : (n index x : ℕ) → n + index ≤ 100 → All IsShort (lines_from n index x)
+short-from zero index x low = All-nil IsShort
+short-from (suc n) index x low =
+    let y = next_state x in
+    let paths = paths_after (2 + drawn 4 y) y in
+    All-append IsShort (block_lines index paths) (lines_from n (index + 1) (after_paths (2 + drawn 4 y) y)) (short-lines paths (paths_after-are y) index (omega arith))
+    (short-from n (index + 1) (after_paths (2 + drawn 4 y) y) (omega arith))
+
+few-from : (n index x : ℕ) → length (lines_from n index x) ≤ 17 * n
+few-from zero index x = omega arith
+few-from (suc n) index x =
+    let y = next_state x in
+    let paths = paths_after (2 + drawn 4 y) y in
+    omega (arith, length-append (block_lines index paths) (lines_from n (index + 1) (after_paths (2 + drawn 4 y) y)), few-lines paths (paths_after-are y) index, few-from n (index + 1) (after_paths (2 + drawn 4 y) y))
+
+-- what is written of a text is short
+pub whole-short : (n m index x seed : ℕ) (bytes : List ℕ) → m < 99 → bytes ++ text_of (lines_from n index x) ≡ text_of (lines_from m 1 seed) → length bytes < 2 ^ 62
+whole-short n m index x seed bytes low is =
+    omega (arith, ap length is, length-append bytes (text_of (lines_from n index x)), short-text (lines_from m 1 seed) (short-from m 1 seed (omega arith)), few-from m 1 seed)

@@ -60,7 +60,7 @@ module _ (weight : List ℕ × List ℕ → ℕ) (small : (e : List ℕ × List 
   pub fields-of_line : (n : ℕ) (e : List ℕ × List ℕ) → IsDemoEdge e → (line_at (n, line_with weight e)).fields ≡ e.0 ∷ e.1 ∷ decimal (weight e) ∷ []
   fields-of_line n e is = let low = small e in fields-three e.0 e.1 (decimal (weight e)) is.tail is.head (IsWord-decimal (weight e) (omega arith))
 
-  length-of_line : (e : List ℕ × List ℕ) → IsDemoEdge e → length (line_with weight e) ≤ 65536
+  pub length-of_line : (e : List ℕ × List ℕ) → IsDemoEdge e → length (line_with weight e) ≤ 65536
   length-of_line e is =
       let low = small e in
       omega (

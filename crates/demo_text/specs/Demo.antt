@@ -90,5 +90,5 @@ abbrev pub text_of : List (List ℕ) → List ℕ
 text_of lines = flat_map (λ line. line ++ codes "\n") lines
 
 -- the generated text
-abbrev pub demo_text : ℕ → List ℕ
+unfoldable pub demo_text : ℕ → List ℕ
 demo_text seed = text_of (lines_from 40 1 seed)

@@ -1,5 +1,5 @@
 //! The text that a seed gives.
-ghost use Rattle.std.specs.Prelude.{◌≡◌, IfOk};
+ghost use Rattle.std.specs.Prelude.{◌≡◌, ◌<◌, ◌^◌, length, IfOk};
 ghost use Rattle.demo_text.specs.Demo.{demo_text};
 
 use crate::block::write_block;
@@ -19,7 +19,8 @@ const PATH_NUMBERS: u32 = 4;
 
 /// The text that a seed gives: forty graphs.
 pub fn demo(alloc: Global, seed: u32) -> Result<Bytes, AllocError>
-    ensures { IfOk result (λ text. text ≡ demo_text seed) }
+    ensures text { IfOk result (λ text. text ≡ demo_text seed) }
+    ensures short { IfOk result (λ text. length text < 2 ^ 62) }
 {
     let mut draws = Draws::from_seed(seed);
     let mut text = String::new(alloc);
