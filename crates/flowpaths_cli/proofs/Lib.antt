@@ -16,6 +16,7 @@ pub mod FoundPaths
 pub mod Raising
 pub mod Thinning
 pub mod Halving
+pub mod Widening
 pub mod LeastError
 pub mod Problems
 pub mod Facts

@@ -10,6 +10,7 @@ pub mod Searched
 pub mod Firsts
 pub mod Room
 pub mod Halved
+pub mod Widened
 pub mod Crowds
 pub mod Run
 pub mod Reporting

@@ -23,6 +23,7 @@ mod solving;
 mod stop;
 mod telling;
 mod thin;
+mod widened;
 mod words;
 
 pub use accepted::right_reports_are_accepted;

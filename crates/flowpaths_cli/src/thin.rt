@@ -69,7 +69,7 @@ fn settle_paths(
         if are_reached(ranges, &settling.settled) {
             break;
         }
-        let left = left_of(alloc, &settling.flow, &settling.settled)?;
+        let left = left_of(alloc, settling.flow.as_slice(), &settling.settled)?;
         let Some((path, width)) = widest_path(alloc, net, &left)? else {
             break;
         };
@@ -91,15 +91,14 @@ fn are_reached(ranges: &Ranges, settled: &[u64]) -> bool
     true
 }
 
-/// What a flow has on each edge over what is settled.
-fn left_of(alloc: Global, flow: &Numbers, settled: &[u64]) -> Result<Vec<u64>, AllocError>
-    requires one_each { length settled.now ≡ length flow.now }
-    requires at_most { AreAtMost settled.now flow.now }
+/// What a flow has on each edge over what is settled, 0 where it has no more.
+pub fn left_of(alloc: Global, flow: &[u64], settled: &[u64]) -> Result<Vec<u64>, AllocError>
+    requires { length settled.now ≡ length flow.now }
     ensures { IfOk result (λ left. IsLeftOf (length flow.now) flow.now settled.now left.items) }
 {
     let mut left = Vec::new(alloc);
     for e in 0..flow.len() {
-        left.push(flow.get(e) - settled[e])?;
+        left.push(flow[e].saturating_sub(settled[e]))?;
     }
     Ok(left)
 }
