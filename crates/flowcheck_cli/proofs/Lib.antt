@@ -4,3 +4,8 @@ mod Models
 mod Problems
 mod ReportSizes
 mod TextCuts
+mod Taken
+mod Growing
+mod Underways
+mod RunEnds
+mod Counting

@@ -4,3 +4,9 @@ pub mod Outcomes
 pub mod ReportTexts
 pub mod Short
 pub mod YesIsTrue
+pub mod Stops
+pub mod Notes
+pub mod Words
+pub mod Inputs
+pub mod Run
+pub mod Checking

@@ -1,8 +1,11 @@
-//! The program `flowcheck`: what the text of a report is answered for a block, and the line that tells it.
+//! The program `flowcheck`: words, the reading of two inputs, and a line for each block that has a report.
 #![tactic(auto)]
 
+mod checking;
 mod digits;
+mod ending;
 pub mod examples;
+mod input;
 mod judging;
 mod laws;
 mod model;
@@ -10,11 +13,20 @@ mod outcome;
 mod printing;
 mod rest;
 mod short_line;
+mod stop;
+mod telling;
 mod verdicts;
+mod words;
 
+pub use ending::check_end;
+pub use input::read_input;
+pub use checking::{Checking, check_piece};
 pub use judging::judge;
 pub use laws::yes_is_true;
 pub use model::model_in;
 pub use outcome::{Outcome, status_after};
 pub use printing::{write_counts, write_outcome};
 pub use rest::{Rest, Text};
+pub use stop::Stop;
+pub use telling::tell;
+pub use words::Names;
