@@ -18,9 +18,9 @@ mod telling;
 mod verdicts;
 mod words;
 
+pub use checking::{Checking, check_piece};
 pub use ending::check_end;
 pub use input::read_input;
-pub use checking::{Checking, check_piece};
 pub use judging::judge;
 pub use laws::yes_is_true;
 pub use model::model_in;
