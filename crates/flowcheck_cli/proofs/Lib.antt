@@ -5,3 +5,8 @@ mod Problems
 mod ReportSizes
 mod TextCuts
 pub mod Answering
+mod Taken
+mod Growing
+mod Underways
+mod RunEnds
+mod Counting

@@ -1,8 +1,11 @@
-//! The program `flowcheck`: what the text of a report is answered for a block, and the line that tells it.
+//! The program `flowcheck`: words, the reading of two inputs, and a line for each block that has a report.
 #![tactic(auto)]
 
+mod checking;
 mod digits;
+mod ending;
 pub mod examples;
+mod input;
 mod judging;
 mod laws;
 mod model;
@@ -11,8 +14,14 @@ mod printing;
 mod rest;
 mod right_reports;
 mod short_line;
+mod stop;
+mod telling;
 mod verdicts;
+mod words;
 
+pub use checking::{Checking, check_piece};
+pub use ending::check_end;
+pub use input::read_input;
 pub use judging::judge;
 pub use laws::yes_is_true;
 pub use model::model_in;
@@ -20,3 +29,6 @@ pub use outcome::{Outcome, status_after};
 pub use printing::{write_counts, write_outcome};
 pub use rest::{Rest, Text};
 pub use right_reports::{right_reports_are_answered_yes, right_reports_are_clean};
+pub use stop::Stop;
+pub use telling::tell;
+pub use words::Names;
