@@ -79,7 +79,7 @@ const BEGINNINGS: [(&[&str], &str, &str, Status); 12] = [
     (
         &["--model", "abs", "--paths", "1", "--nodes", "1"],
         UNEQUAL,
-        "graph 1 x\nmodel abs 1\nmark bounds\nlower 0\nupper 8\ncert none\ntrail 1 4 1\nstep 1\nend\n",
+        "graph 1 x\nmodel abs 1\nmark bounds\nlower 0\nupper 2\npath 3 s a t\ncert none\ntrail 1 1 1\nstep 1\nend\n",
         Status::Partial,
     ),
 ];
