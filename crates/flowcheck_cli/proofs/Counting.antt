@@ -1,5 +1,5 @@
 -- A text of reports has no more texts than bytes.
-use Rattle.std.proofs.Common.{◌≡◌, ◌≤◌, ◌+◌, ◌==◌, ℕ, List, [], ◌∷◌, length, arith}
+use Rattle.std.proofs.Common.{◌≤◌, ◌+◌, ◌==◌, ℕ, List, [], ◌∷◌, length, arith}
 use Rattle.std.specs.Str.{bytes_eq}
 use Rattle.std.proofs.lemmas.Bool.{cond_both}
 use Rattle.graph_text.specs.Lines.{onto_first}

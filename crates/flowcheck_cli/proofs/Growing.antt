@@ -1,5 +1,5 @@
 -- Outcomes and lines that grow by one block after another.
-use Rattle.std.proofs.Common.{◌≡◌, ℕ, ◌+◌, List, [], ◌∷◌, ◌++◌, length, take, drop, Option, None, Some, refl, sym, ◌∙◌, ap, subst, append_assoc, append-nil, zero-add, arith}
+use Rattle.std.proofs.Common.{◌≡◌, ℕ, ◌+◌, List, [], ◌∷◌, ◌++◌, length, take, drop, Option, refl, sym, ◌∙◌, ap, subst, append_assoc, append-nil, zero-add, arith}
 use Rattle.std.proofs.lemmas.List.{take-append-drop}
 use Rattle.std.proofs.Math.Seq.{take-append_seam}
 use Rattle.flow_io.specs.Outside.{Adds, AddsPrefix}
@@ -12,7 +12,7 @@ use Rattle.graph_text.specs.declared.block.Block.{Block}
 use Rattle.flowcheck_cli.specs.Handed.{IsHandedFor}
 use Rattle.flowcheck_cli.specs.Outcomes.{IsOutcome}
 use Rattle.flowcheck_cli.specs.ReportTexts.{report_texts, model_in, line_count}
-use Rattle.flowcheck_cli.specs.Run.{AreLines, AreFirstLines, BeginsLines}
+use Rattle.flowcheck_cli.specs.Run.{AreLines, AreFirstLines}
 use Rattle.flowcheck_cli.specs.Checking.{texts_behind, line_behind, last_number, HasChecked, Wrote, WroteFirst, WroteBeginning}
 use Rattle.flowcheck_cli.specs.declared.checking.Checking.{Checking}
 use Rattle.flowcheck_cli.specs.declared.outcome.Outcome.{Outcome}

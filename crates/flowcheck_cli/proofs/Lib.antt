@@ -9,3 +9,4 @@ mod Growing
 mod Underways
 mod RunEnds
 mod Counting
+mod Accounts

@@ -1,5 +1,5 @@
 -- What a run took of the graph text, and what it then wrote.
-use Rattle.std.proofs.Common.{◌≡◌, ◌≢◌, ◌≤◌, ◌<◌, ◌^◌, ◌+◌, ◌==◌, ℕ, List, [], ◌∷◌, ◌++◌, length, take, drop, true, false, Bool, Option, Some, None, Result, Ok, Err, refl, sym, ap, subst, ◌∙◌, arith, inl, inr, append-nil, append_assoc, eq-eqb}
+use Rattle.std.proofs.Common.{◌≡◌, ◌≢◌, ◌≤◌, ◌<◌, ◌^◌, ◌+◌, ◌==◌, ℕ, List, [], ◌++◌, length, take, drop, false, Option, Result, Ok, Err, refl, sym, ap, subst, ◌∙◌, arith, inl, inr, append-nil, append_assoc, eq-eqb}
 use Rattle.std.proofs.lemmas.Bool.{cond_both, cond-true, cond-false, eqb-true, false_from_ne_true}
 use Rattle.std.proofs.lemmas.List.{take-append-drop}
 use Rattle.std.specs.List.{list_any}
@@ -15,7 +15,7 @@ use Rattle.graph_text.specs.Reader.{IsNew}
 use Rattle.graph_text.specs.declared.reader.BlockReader.{BlockReader}
 use Rattle.flowcheck_cli.specs.CheckLines.{IsPrinted, outcome_lines, counts_line, counts_line_if_other, status_of, status_of_all, is_yes, is_unread}
 use Rattle.flowcheck_cli.specs.ReportTexts.{report_texts, model_in}
-use Rattle.flowcheck_cli.specs.Run.{AreLines, IsPrintedWith, BeginsPrinted}
+use Rattle.flowcheck_cli.specs.Run.{AreLines, BeginsPrinted}
 use Rattle.flowcheck_cli.specs.Stops.{status_at}
 use Rattle.flowcheck_cli.specs.Checking.{IsUnbegun, Wrote, WroteAll, WroteFirst, WroteBeginning, Printed, PrintedBeginning, Underway, IsShort, EndsRight}
 use Rattle.flowcheck_cli.specs.Inputs.{IsAtEnd}
@@ -81,10 +81,14 @@ told-same_numbers bytes reports checking before now same wrote =
     let status : checking.status ≡ status_of_all all texts wrote.outcomes =
     wrote.checked.status_is ∙ sym (cond-true (all == texts) (status_of wrote.outcomes) Refused (eq-eqb all texts equal)) in (
       lines,
-      (wrote.outcomes, record {
-        outcomes_are = wrote.checked.outcomes_are;
-        lines_are = sym (ap (λ l. lines ++ l) (counts_same all texts equal) ∙ append-nil lines);
-      }, status),
+      (
+        wrote.outcomes,
+        record {
+          outcomes_are = wrote.checked.outcomes_are;
+          lines_are = sym (ap (λ l. lines ++ l) (counts_same all texts equal) ∙ append-nil lines);
+        },
+        status,
+      ),
       wrote.adds,
     )
 
@@ -99,10 +103,14 @@ told-other_numbers bytes reports checking before was now other wrote adds =
     let differ : (all == texts) ≡ false = unequal all texts (λ same. other (count ∙ same)) in
     let more : Adds was now (counts_line all texts) = subst (λ n. Adds was now (counts_line n texts)) count adds in (
       lines ++ counts_line all texts,
-      (wrote.outcomes, record {
-        outcomes_are = wrote.checked.outcomes_are;
-        lines_are = sym (ap (λ l. lines ++ l) (counts_other all texts differ));
-      }, sym (cond-false (all == texts) (status_of wrote.outcomes) Refused differ)),
+      (
+        wrote.outcomes,
+        record {
+          outcomes_are = wrote.checked.outcomes_are;
+          lines_are = sym (ap (λ l. lines ++ l) (counts_other all texts differ));
+        },
+        sym (cond-false (all == texts) (status_of wrote.outcomes) Refused differ),
+      ),
       Adds-then before was now lines (counts_line all texts) wrote.adds more,
     )
 

@@ -1,6 +1,6 @@
 -- From what the reads of an input took to what is said of it where the inputs tell.
-use Rattle.std.proofs.Common.{◌≡◌, ◌≤◌, ◌<◌, ◌-◌, ◌^◌, ◌&&◌, ℕ, List, [], ◌∷◌, ◌++◌, length, take, drop, true, false, Option, Some, None, Result, Ok, Err, refl, sym, ap, subst, ◌∙◌, arith, eq-eqb, length-append, append-nil}
-use Rattle.std.specs.Prelude.{IfSome, is_some, IsSomeAnd}
+use Rattle.std.proofs.Common.{◌≡◌, ◌≤◌, ◌<◌, ◌-◌, ◌^◌, ◌&&◌, ℕ, List, [], ◌∷◌, ◌++◌, length, take, drop, true, Option, Some, None, refl, sym, ap, subst, ◌∙◌, arith, eq-eqb, length-append, append-nil}
+use Rattle.std.specs.Prelude.{IfSome, is_some}
 use Rattle.std.specs.Str.{bytes_eq}
 use Rattle.std.proofs.lemmas.Bool.{cond-true}
 use Rattle.std.proofs.lemmas.Option.{none-some}

@@ -14,11 +14,7 @@ pub(crate) const MOST: usize = 1 << 30;
 pub(crate) const ROOM: usize = 1 << 16;
 
 /// Reads the input of this name to its end.
-pub fn read_input<I: Inputs>(
-    alloc: Global,
-    name: &str,
-    inputs: &mut I,
-) -> Result<Vec<u8>, Stop>
+pub fn read_input<I: Inputs>(alloc: Global, name: &str, inputs: &mut I) -> Result<Vec<u8>, Stop>
     requires { I.may_ask inputs.old name.now }
     ensures short { IfOk result (λ bytes. length bytes.items < 2 ^ 30) }
     ensures whole { IfOk result (λ bytes. WhereSeen (I.holds inputs.old name.now) (I.selected inputs.new) (λ seen. seen.held ≡ bytes.items)) }

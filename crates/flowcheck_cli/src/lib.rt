@@ -1,10 +1,12 @@
 //! The program `flowcheck`: words, the reading of two inputs, and a line for each block that has a report.
 #![tactic(auto)]
 
+mod call;
 mod checking;
 mod digits;
 mod ending;
 pub mod examples;
+mod graphs;
 mod input;
 mod judging;
 mod laws;
@@ -18,15 +20,11 @@ mod telling;
 mod verdicts;
 mod words;
 
-pub use ending::check_end;
-pub use input::read_input;
-pub use checking::{Checking, check_piece};
+pub use call::flowcheck;
 pub use judging::judge;
 pub use laws::yes_is_true;
 pub use model::model_in;
 pub use outcome::{Outcome, status_after};
 pub use printing::{write_counts, write_outcome};
 pub use rest::{Rest, Text};
-pub use stop::Stop;
 pub use telling::tell;
-pub use words::Names;

@@ -1,6 +1,5 @@
-use Rattle.std.proofs.Common.{◌≡◌, refl, sym, ap, subst}
+use Rattle.std.proofs.Common.{refl, subst}
 use Rattle.flow_io.specs.Outside.{Adds, AddsPrefix}
-use Rattle.graph_text.specs.declared.block.Block.{Block}
 use Rattle.flowcheck_cli.specs.CheckLines.{outcome_line}
 use Rattle.flowcheck_cli.specs.Outcomes.{IsOutcome}
 use Rattle.flowcheck_cli.specs.ReportTexts.{report_texts}

@@ -1,4 +1,4 @@
-use Rattle.std.proofs.Common.{◌≡◌, ◌-◌, ◌≤◌, ◌++◌, ℕ, List, Option, length, take}
+use Rattle.std.proofs.Common.{◌-◌, ◌≤◌, ◌++◌, ℕ, List, Option, length, take}
 use Rattle.flowcheck_cli.specs.Checking.{Underway, IsShort}
 use Rattle.flowcheck_cli.proofs.checking.check_piece.Given as goal
 

@@ -1,4 +1,3 @@
-use Rattle.std.proofs.Common.{◌≡◌}
 use Rattle.flowcheck_cli.proofs.Taken.{takes-count}
 use Rattle.flowcheck_cli.proofs.input.read_input.Goals as goal
 

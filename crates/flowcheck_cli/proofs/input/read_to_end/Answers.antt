@@ -1,8 +1,6 @@
-use Rattle.std.proofs.Common.{◌≡◌, ◌<◌, ◌+◌, ◌++◌, length, take, refl, sym, ap, subst, ◌∙◌, arith, append-nil, length-append, length-take}
+use Rattle.std.proofs.Common.{◌≡◌, ◌++◌, length, take, arith, length-append, length-take}
 use Rattle.std.proofs.lemmas.List.{length-take-le}
-use Rattle.flow_io.specs.Outside.{Took}
-use Rattle.flow_io.proofs.Reading.{Took-nothing, Took-more}
-use Rattle.flowcheck_cli.proofs.Taken.{at-end}
+use Rattle.flow_io.proofs.Reading.{Took-more}
 use Rattle.flowcheck_cli.proofs.input.read_to_end.Goals as goal
 
 pub returns-in_err-extend_from_slice-clause-took : goal.returns-in_err-extend_from_slice-clause-took
