@@ -21,7 +21,7 @@ use Rattle.flowcheck_cli.specs.Words.{InputNames, names_of}
 use Rattle.flowcheck_cli.specs.declared.stop.Stop.{Stop}
 use Rattle.flowcheck_cli.specs.declared.stop.Stop.TheVariants.{Memory as OutOfMemory, Fault as Failed, Long as TooLong}
 use Rattle.flowcheck_cli.proofs.Taken.{seen_at, left-at, taken-at, where_took, first-at}
-use Rattle.flowcheck_cli.proofs.Underways.{WroteFirst-longer, WroteBeginning-longer}
+use Rattle.flowcheck_cli.proofs.Underways.{first-longer}
 
 -- names that differ
 names_differ : (a b : List ℕ) → a ≢ b → bytes_eq a b ≡ false
@@ -127,15 +127,13 @@ where_written P (Some start) now text adds holds = (text, adds, holds)
 at_beginning : (reports bytes rest text : List ℕ) → BeginsLines reports (complete bytes) text → BeginsLines reports (blocks_at bytes (Some rest)) text
 at_beginning reports bytes [] text begins =
     let all = blocks-begin bytes in
-    let longer = WroteBeginning-longer reports (complete bytes) all.0 None None (text, begins, refl) in
-    subst (λ l. BeginsLines reports l text) (sym all.1) longer.1
+    subst (λ l. BeginsLines reports l text) (sym all.1) (begins.0, first-longer reports (complete bytes) all.0 (text ++ begins.0) begins.1)
 at_beginning reports bytes (b ∷ rest) text begins = begins
 
 at_first : (reports bytes rest text : List ℕ) → AreFirstLines reports (complete bytes) text → AreFirstLines reports (blocks_at bytes (Some rest)) text
 at_first reports bytes [] text lines =
     let all = blocks-begin bytes in
-    let longer = WroteFirst-longer reports (complete bytes) all.0 None None (text, lines, refl) in
-    subst (λ l. AreFirstLines reports l text) (sym all.1) longer.1
+    subst (λ l. AreFirstLines reports l text) (sym all.1) (first-longer reports (complete bytes) all.0 text lines)
 at_first reports bytes (b ∷ rest) text lines = lines
 
 -- the graph text is selected, so it is not that nothing of it is told
