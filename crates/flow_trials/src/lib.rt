@@ -13,6 +13,8 @@ mod calls;
 #[cfg(test)]
 mod certs;
 #[cfg(test)]
+mod checks;
+#[cfg(test)]
 mod constraints;
 #[cfg(test)]
 mod diamonds;

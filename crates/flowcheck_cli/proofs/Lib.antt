@@ -10,3 +10,4 @@ mod Growing
 mod Underways
 mod RunEnds
 mod Counting
+mod Accounts

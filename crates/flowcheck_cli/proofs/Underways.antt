@@ -133,7 +133,7 @@ underway-more reports old new first fed last bytes piece n before was now under 
     }
 
 -- the first ones of more blocks
-first-longer : (reports : List ℕ) (shown more : List TextBlock) (text : List ℕ) → AreFirstLines reports shown text → AreFirstLines reports (shown ++ more) text
+pub first-longer : (reports : List ℕ) (shown more : List TextBlock) (text : List ℕ) → AreFirstLines reports shown text → AreFirstLines reports (shown ++ more) text
 first-longer reports shown more text h =
     elim (cases_lt h.0 (length shown)) [
       | inl less ↦ (h.0, subst (λ l. AreLines reports l text) (sym (take-append-le h.0 shown more (omega arith))) h.1)

@@ -1,10 +1,12 @@
 //! The program `flowcheck`: words, the reading of two inputs, and a line for each block that has a report.
 #![tactic(auto)]
 
+mod call;
 mod checking;
 mod digits;
 mod ending;
 pub mod examples;
+mod graphs;
 mod input;
 mod judging;
 mod laws;
@@ -19,9 +21,7 @@ mod telling;
 mod verdicts;
 mod words;
 
-pub use checking::{Checking, check_piece};
-pub use ending::check_end;
-pub use input::read_input;
+pub use call::flowcheck;
 pub use judging::judge;
 pub use laws::yes_is_true;
 pub use model::model_in;
@@ -29,6 +29,4 @@ pub use outcome::{Outcome, status_after};
 pub use printing::{write_counts, write_outcome};
 pub use rest::{Rest, Text};
 pub use right_reports::{right_reports_are_answered_yes, right_reports_are_clean};
-pub use stop::Stop;
 pub use telling::tell;
-pub use words::Names;
