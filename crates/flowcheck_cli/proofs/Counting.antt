@@ -17,16 +17,16 @@ lines-few (b ∷ bytes) =
     let few = lines-few bytes in
     cond_both (b == 10) ((b ∷ []) ∷ rest) (onto_first b rest) (λ lines. length lines ≤ length (b ∷ bytes)) (λ feed. omega (arith, few)) (λ other. omega (arith, few, onto_first-few b rest))
 
-before_first-few : (l : List ℕ) (texts : List (List ℕ)) → length (before_first_text l texts) ≤ length texts + 1
-before_first-few l [] = omega arith
-before_first-few l (text ∷ texts) = omega arith
+before_first_text-few : (l : List ℕ) (texts : List (List ℕ)) → length (before_first_text l texts) ≤ length texts + 1
+before_first_text-few l [] = omega arith
+before_first_text-few l (text ∷ texts) = omega arith
 
 texts_in-few : (lines : List (List ℕ)) → length (texts_in lines) ≤ length lines
 texts_in-few [] = omega arith
 texts_in-few (l ∷ lines) =
     let rest = texts_in lines in
     let few = texts_in-few lines in
-    cond_both (bytes_eq l end_line) (l ∷ rest) (before_first_text l rest) (λ texts. length texts ≤ length (l ∷ lines)) (λ end. omega (arith, few)) (λ other. omega (arith, few, before_first-few l rest))
+    cond_both (bytes_eq l end_line) (l ∷ rest) (before_first_text l rest) (λ texts. length texts ≤ length (l ∷ lines)) (λ end. omega (arith, few)) (λ other. omega (arith, few, before_first_text-few l rest))
 
 pub report_texts-few : (reports : List ℕ) → length (report_texts reports) ≤ length reports
 report_texts-few reports = omega (arith, lines-few reports, texts_in-few (ended_lines reports))

@@ -11,3 +11,4 @@ mod Underways
 mod RunEnds
 mod Counting
 mod Accounts
+mod Pieces

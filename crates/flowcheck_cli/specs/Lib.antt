@@ -11,3 +11,4 @@ pub mod Words
 pub mod Inputs
 pub mod Run
 pub mod Checking
+pub mod Carrying

@@ -12,6 +12,7 @@ use dag_net::Mode;
 const MOST_PATHS: u32 = 64;
 
 /// The model for reading, by line 2 of the first text.
+#[tactic(auto, unfolding(crate::specs::ReportTexts::model_in))]
 pub fn model_in(reports: &[u8]) -> Mode
     ensures { result ≡ model_in reports.now }
 {

@@ -18,7 +18,7 @@ use Rattle.path_report.specs.declared.report.Report.{Report}
 use Rattle.path_report.proofs.GoodFields.{spaced_fields-join, text_lines-line}
 use Rattle.path_report.proofs.Written.{decimal-field, number-written}
 use Rattle.report_texts.specs.Laws.{ModelsAreTold}
-use Rattle.report_texts.specs.ReportTexts.{ended_lines, end_line, models, mode_of_line, first_of, second_of}
+use Rattle.report_texts.specs.ReportTexts.{ended_lines, end_line, models, mode_of_line, first_of, second_of, model_in}
 use Rattle.report_texts.proofs.EndedLines.{has_feed, ended_lines-line, join-feed, decimal-no_feed}
 use Rattle.report_texts.proofs.Cutting.{first_texts_are_cut_off, head-parts}
 
@@ -155,6 +155,7 @@ second-line labels r graph model =
     ∙ ap first_of (first-line m (b ++ end_line) model)
 
 pub models_are_told : ModelsAreTold
+unfolding model_in
 models_are_told entry rest written =
     let r = entry.report in
     let h = head-parts entry.labels r written.regular in

@@ -52,5 +52,5 @@ second_of [] = []
 second_of (l ∷ lines) = first_of lines
 
 -- the model of line 2 of the first text, where that is the line of a model, and else the exact one
-abbrev pub model_in : List ℕ → Mode
+unfoldable pub model_in : List ℕ → Mode
 model_in reports = mode_of_line (second_of (ended_lines (first_of (report_texts reports))))

@@ -1,12 +1,11 @@
-use Rattle.std.proofs.Common.{◌≡◌, ◌-◌, ◌≤◌, ℕ, List, length}
-use Rattle.flow_io.specs.Outside.{Took}
-use Rattle.flowcheck_cli.specs.Checking.{Underway, IsShort}
+use Rattle.std.proofs.Common.{◌≡◌, ◌-◌, ◌≤◌, ℕ, List}
+use Rattle.flowcheck_cli.specs.Carrying.{Carried}
+use Rattle.flowcheck_cli.specs.Checking.{IsShort}
 use Rattle.flowcheck_cli.proofs.graphs.check_graphs.Given as goal
 
 abbrev pub invariant-loop-total : goal.invariant-loop-total
 invariant-loop-total g l = record {
-  run : (bytes : List ℕ) × (length bytes ≡ l.total) × Took (g.I.Inputs.selected l.fn.inputs) (g.I.Inputs.selected l.inputs) bytes
-      × Underway l.reports l.checking l.reader bytes (g.O.Output.written l.fn.out) (g.O.Output.written l.out);
+  carried : Carried l.reports l.checking l.reader l.total (g.I.Inputs.selected l.fn.inputs) (g.I.Inputs.selected l.inputs) (g.O.Output.written l.fn.out) (g.O.Output.written l.out);
   most : l.total ≤ 1073741824;
   reads : g.I.Inputs.faults l.fn.inputs ≤ g.I.Inputs.faults l.inputs;
   writes : g.O.Output.faults l.fn.out ≤ g.O.Output.faults l.out;
