@@ -87,7 +87,8 @@ fn check_pieces<I: Inputs, O: Output>(
     let mut total = 0;
     while total < MOST {
         let room = (MOST - total).min(ROOM);
-        match check_next(alloc, reports, checking, reader, &mut buffer[..room], inputs, out) {
+        let piece = &mut buffer[..room];
+        match check_next(alloc, reports, checking, reader, piece, inputs, out) {
             Ok(count) => total += count,
             Err(status) => return status,
         }

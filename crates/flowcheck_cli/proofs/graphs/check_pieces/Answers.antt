@@ -43,12 +43,12 @@ returns-in-Err-clause-holds g c any = c.check_next.ensures.holds any ∙ c.loop-
 
 pub loop-total-preserved : goal.loop-total-preserved
 loop-total-preserved g c = record {
-  carried = c.in-Ok-check_next.ensures.carried c.loop-total.total _ _ c.loop-total.invariant.carried;
-  most = omega (arith, c.loop-total-test.true, c.in-Ok-check_next.ensures.count, c.min-room.ensures, c.min-room.array_long, length-take c.min-room.result c.loop-total.buffer);
+  carried = c.in-Ok.ensures.carried c.loop-total.total _ _ c.loop-total.invariant.carried;
+  most = omega (arith, c.loop-total-test.true, c.in-Ok.ensures.count, c.min-room.ensures, c.min-room.array_long, length-take c.min-room.result c.loop-total.buffer);
   reads = omega (arith, c.loop-total.invariant.reads, c.check_next.ensures.reads);
   writes = omega (arith, c.loop-total.invariant.writes, c.check_next.ensures.writes);
   holds = λ any. c.check_next.ensures.holds any ∙ c.loop-total.invariant.holds any;
-  short = c.in-Ok-check_next.ensures.short;
+  short = c.in-Ok.ensures.short;
 }
 
 pub returns-clause-right : goal.returns-clause-right
