@@ -1,9 +1,8 @@
 -- What a run carries from one piece of the graph text to the next.
-use Rattle.std.specs.Prelude.{◌≡◌, ◌⊎◌, ℕ, ◌+◌, ◌^◌, ◌≤◌, List, length, Option, Result, IfOk, IfErr}
+use Rattle.std.specs.Prelude.{◌≡◌, ℕ, ◌+◌, ◌^◌, ◌≤◌, List, length, Option}
 use Rattle.flow_io.specs.Outside.{Selected, Took}
-use Rattle.flow_io.specs.declared.status.Status.{Status}
 use Rattle.graph_text.specs.declared.reader.BlockReader.{BlockReader}
-use Rattle.flowcheck_cli.specs.Checking.{Underway, EndsRight}
+use Rattle.flowcheck_cli.specs.Checking.{Underway}
 use Rattle.flowcheck_cli.specs.declared.checking.Checking.{Checking}
 
 -- so many bytes were taken since `first`, and the run is between two pieces behind them

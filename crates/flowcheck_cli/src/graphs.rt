@@ -65,6 +65,37 @@ fn check_next<I: Inputs, O: Output>(
     }
 }
 
+/// Takes one piece of the selected input after another, to its end or to the limit.
+fn check_pieces<I: Inputs, O: Output>(
+    alloc: Global,
+    reports: &[u8],
+    checking: &mut Checking<'_>,
+    reader: &mut BlockReader,
+    inputs: &mut I,
+    out: &mut O,
+) -> Status
+    requires begun { Carried reports.now checking.old reader.old 0 (I.selected inputs.old) (I.selected inputs.old) (O.written out.old) (O.written out.old) }
+    requires short { IsShort checking.old }
+    requires reports_short { length reports.now < 2 ^ 30 }
+    ensures right { EndsRight reports.now result (I.selected inputs.old) (I.selected inputs.new)
+        (O.written out.old) (O.written out.new) (Rose (O.faults out.old) (O.faults out.new)) }
+    ensures fault { result ≡ Status.Fault → Rose (I.faults inputs.old) (I.faults inputs.new)
+        ⊎ Rose (O.faults out.old) (O.faults out.new) }
+    ensures holds { (any : List ℕ) → I.holds inputs.new any ≡ I.holds inputs.old any }
+{
+    let mut buffer = [0; ROOM];
+    let mut total = 0;
+    while total < MOST {
+        let room = (MOST - total).min(ROOM);
+        let piece = &mut buffer[..room];
+        match check_next(alloc, reports, checking, reader, piece, inputs, out) {
+            Ok(count) => total += count,
+            Err(status) => return status,
+        }
+    }
+    Status::Long
+}
+
 /// Reads the selected input to its end, and checks each of its blocks as it comes.
 pub fn check_graphs<I: Inputs, O: Output>(
     alloc: Global,
@@ -83,14 +114,5 @@ pub fn check_graphs<I: Inputs, O: Output>(
     let Ok(mut reader) = BlockReader::new(alloc, checking.mode) else {
         return Status::Memory;
     };
-    let mut buffer = [0; ROOM];
-    let mut total = 0;
-    while total < MOST {
-        let room = (MOST - total).min(ROOM);
-        match check_next(alloc, reports, &mut checking, &mut reader, &mut buffer[..room], inputs, out) {
-            Ok(count) => total += count,
-            Err(status) => return status,
-        }
-    }
-    Status::Long
+    check_pieces(alloc, reports, &mut checking, &mut reader, inputs, out)
 }

@@ -36,8 +36,8 @@ pub check_piece-requires-clause-piece_short : goal.check_piece-requires-clause-p
 check_piece-requires-clause-piece_short g c =
     omega (arith, length-take c.in-Ok.count c.read.new.into, c.in-Ok.ensures.count, c.requires.room.within, c.read.auto.into)
 
-pub returns-in-Ok-clause-carried : goal.returns-in-Ok-clause-carried
-returns-in-Ok-clause-carried g c total first before carried =
+pub returns-in-Ok-check_piece-clause-carried : goal.returns-in-Ok-check_piece-clause-carried
+returns-in-Ok-check_piece-clause-carried g c total first before carried =
     carried-more c.args.reports.now c.args.checking.now c.check_piece.new.checking c.args.reader.now c.check_piece.new.reader total first _ _ c.read.new.into c.in-Ok.count before _ _
     carried c.in-Ok.ensures.count c.in-Ok.ensures.bytes c.in-Ok.ensures.left c.in-Ok-check_piece.ensures.done
 

@@ -1,7 +1,7 @@
 use Rattle.std.proofs.Common.{◌≡◌, ◌-◌, ◌≤◌, ℕ, List}
 use Rattle.flowcheck_cli.specs.Carrying.{Carried}
 use Rattle.flowcheck_cli.specs.Checking.{IsShort}
-use Rattle.flowcheck_cli.proofs.graphs.check_graphs.Given as goal
+use Rattle.flowcheck_cli.proofs.graphs.check_pieces.Given as goal
 
 abbrev pub invariant-loop-total : goal.invariant-loop-total
 invariant-loop-total g l = record {
