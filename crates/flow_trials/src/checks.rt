@@ -1,7 +1,8 @@
 //! Runs of the checker of reports on two inputs in memory.
 
-use crate::rows::{THREE, THREE_REPORTS};
-use crate::runs::owned;
+use crate::models::BEGINNINGS;
+use crate::rows::{REPORTS, THREE, THREE_REPORTS};
+use crate::runs::{owned, run};
 use flow_io::{MemInputs, MemOutput, Status};
 use flowcheck_cli::flowcheck;
 use std::alloc::{AllocError, Global};
@@ -15,12 +16,14 @@ const ROOM: usize = 4096;
 
 /// A graph of one edge, and its report.
 const GRAPH: &str = "# one\n2\ns t 5\n";
+
 const REPORT: &str =
     "graph 1 one\nmodel exact\nmark optimal\nlower 1\nupper 1\npath 5 s t\ncert wide 1\nedge s t\nend\n";
 
 /// A graph of nine edges, and its report.
 const WAGONS: &str =
     "# wagons\n7\nmine yard 55\nyard j1 40\nj1 port 40\nyard j2 24\nj2 mill 15\nquarry yard 9\nj2 port 9\nquarry j1 6\nj1 mill 6\n";
+
 const WAGONS_REPORT: &str =
     "graph 1 wagons\nmodel exact\nmark optimal\nlower 4\nupper 4\npath 40 mine yard j1 port\npath 15 mine yard j2 mill\npath 9 quarry yard j2 port\npath 6 quarry j1 mill\ncert wide 4\nedge yard j1\nedge j2 mill\nedge j2 port\nedge quarry j1\nend\n";
 
@@ -133,13 +136,68 @@ fn check(
     Ok(Checked { status, out, notes })
 }
 
+/// A line that says yes for each of so many blocks.
+fn yes_lines(alloc: Global, count: usize) -> Result<String, AllocError> {
+    let mut lines = String::new(alloc);
+    for number in 1..=count {
+        lines.push_str(&format!(in alloc; "graph {number} yes\n")?)?;
+    }
+    Ok(lines)
+}
+
+/// Whether the checker says yes, and nothing else, of each report that `flowpaths` writes for this graph.
+fn is_answered_yes(alloc: Global, words: &[&str], graph: &str) -> Result<bool, Fail> {
+    let mut inputs = MemInputs::new(alloc, 4096);
+    inputs.add("-", graph.as_bytes())?;
+    let ran = run(
+        alloc,
+        words,
+        &mut inputs,
+        MemOutput::new(alloc, ROOM, ROOM)?,
+    )?;
+    let report = str::from_utf8(ran.out.bytes())?;
+    let mut inputs = inputs_of(alloc, graph, report, 4096)?;
+    let checked = check(
+        alloc,
+        &NAMES,
+        &mut inputs,
+        MemOutput::new(alloc, ROOM, ROOM)?,
+    )?;
+    let count = report.split('\n').filter(|line| *line == "end").count();
+    let lines = yes_lines(alloc, count)?;
+    Ok(checked.status == Status::Clean && checked.out.bytes() == lines.as_bytes())
+}
+
+#[test]
+fn own_reports_are_answered_yes(rt: HostRuntime) -> Result<(), Fail> {
+    let alloc = rt.alloc();
+    for (graph, _, _) in REPORTS {
+        assert!(rt;
+            is_answered_yes(alloc, &[], graph)?,
+            "the reports on {graph}"
+        );
+    }
+    for (words, graph, _, _) in BEGINNINGS {
+        assert!(rt;
+            is_answered_yes(alloc, words, graph)?,
+            "the reports on {graph}"
+        );
+    }
+    Ok(())
+}
+
 #[test]
 fn reports_are_checked(rt: HostRuntime) -> Result<(), Fail> {
     let alloc = rt.alloc();
     for chunk in [4096, 1, 7] {
         for (graph, report, lines, status) in CHECKS {
             let mut inputs = inputs_of(alloc, graph, report, chunk)?;
-            let checked = check(alloc, &NAMES, &mut inputs, MemOutput::new(alloc, ROOM, ROOM)?)?;
+            let checked = check(
+                alloc,
+                &NAMES,
+                &mut inputs,
+                MemOutput::new(alloc, ROOM, ROOM)?,
+            )?;
             assert!(rt;
                 checked.out.bytes() == lines.as_bytes(),
                 "the lines of {report}"
@@ -157,10 +215,17 @@ fn reads_of_a_check_fail(rt: HostRuntime) -> Result<(), Fail> {
     for call in 0..6u64 {
         let mut inputs = inputs_of(alloc, THREE, THREE_REPORTS, 4096)?;
         inputs.fail_at(call)?;
-        let checked = check(alloc, &NAMES, &mut inputs, MemOutput::new(alloc, ROOM, ROOM)?)?;
+        let checked = check(
+            alloc,
+            &NAMES,
+            &mut inputs,
+            MemOutput::new(alloc, ROOM, ROOM)?,
+        )?;
         assert_eq!(rt; checked.status, Status::Fault, "call {call}");
         assert!(rt;
-            b"graph 1 yes\ngraph 2 yes\ngraph 3 yes\n".as_slice().starts_with(checked.out.bytes()),
+            b"graph 1 yes\ngraph 2 yes\ngraph 3 yes\n"
+                .as_slice()
+                .starts_with(checked.out.bytes()),
             "call {call}"
         );
         assert!(rt;
@@ -181,7 +246,9 @@ fn writes_of_a_check_fail(rt: HostRuntime) -> Result<(), Fail> {
         let checked = check(alloc, &NAMES, &mut inputs, out)?;
         assert_eq!(rt; checked.status, Status::Fault, "write {call}");
         assert!(rt;
-            b"graph 1 yes\ngraph 2 yes\ngraph 3 yes\n".as_slice().starts_with(checked.out.bytes()),
+            b"graph 1 yes\ngraph 2 yes\ngraph 3 yes\n"
+                .as_slice()
+                .starts_with(checked.out.bytes()),
             "write {call}"
         );
     }
@@ -199,7 +266,12 @@ fn two_words_are_wanted(rt: HostRuntime) -> Result<(), Fail> {
     ];
     for words in refused {
         let mut inputs = inputs_of(alloc, GRAPH, REPORT, 16)?;
-        let checked = check(alloc, words, &mut inputs, MemOutput::new(alloc, ROOM, ROOM)?)?;
+        let checked = check(
+            alloc,
+            words,
+            &mut inputs,
+            MemOutput::new(alloc, ROOM, ROOM)?,
+        )?;
         assert_eq!(rt; checked.status, Status::Words, "{words:?}");
         assert!(rt; checked.out.bytes().is_empty(), "{words:?}");
         assert!(rt;

@@ -8,7 +8,7 @@ use std::test::Fail;
 const UNEQUAL: &str = "# x\n3\ns a 3\na t 5\n";
 
 /// Words, an input, how its report begins up to what is free, and its status.
-const BEGINNINGS: [(&[&str], &str, &str, Status); 12] = [
+pub const BEGINNINGS: [(&[&str], &str, &str, Status); 12] = [
     (
         &[],
         "# diamonds\n#S b m c\n#S b m d\n#S b m c\n7\ns a 5\na m 5\ns b 2\nb m 2\nm c 4\nc t 4\nm d 3\nd t 3\n",

@@ -19,7 +19,7 @@ const ONE: &str =
     "graph 1 one\nmodel exact\nmark optimal\nlower 1\nupper 1\npath 5 s t\ncert wide 1\nedge s t\nend\n";
 
 /// Inputs, their reports and their statuses.
-const REPORTS: [(&str, &str, Status); 13] = [
+pub const REPORTS: [(&str, &str, Status); 13] = [
     ("# one\n2\ns t 5\n", ONE, Status::Clean),
     ("", "", Status::Clean),
     ("# only a comment", "", Status::Clean),
