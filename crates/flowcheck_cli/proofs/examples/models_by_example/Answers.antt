@@ -1,7 +1,7 @@
 -- by computation
 use Rattle.std.proofs.Common.{refl}
 use Rattle.std.specs.Fmt.{digits}
-use Rattle.flowcheck_cli.specs.ReportTexts.{model_in}
+use Rattle.report_texts.specs.ReportTexts.{model_in}
 use Rattle.flowcheck_cli.proofs.examples.models_by_example.Goals as goal
 
 pub returns : goal.returns
