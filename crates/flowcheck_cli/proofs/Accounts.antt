@@ -1,26 +1,26 @@
 -- From what a run took and wrote to what is said of it where the inputs and the output tell.
-use Rattle.std.proofs.Common.{◌≡◌, ◌≢◌, ◌≤◌, ◌<◌, ◌^◌, ◌⊎◌, ℕ, List, [], ◌∷◌, ◌++◌, length, true, false, Bool, Option, Some, None, Result, Ok, Err, is_err, OnErr, OnOk, refl, sym, ap, subst, ◌∙◌, arith, inl, inr, append-nil}
+use Rattle.std.proofs.Common.{◌≡◌, ◌≢◌, ◌≤◌, ◌<◌, ◌^◌, ◌⊎◌, ℕ, List, [], ◌∷◌, ◌++◌, length, true, false, Option, Some, None, Result, Ok, Err, is_err, OnErr, OnOk, refl, sym, ap, subst, ◌∙◌, arith, inl, inr, append-nil}
 use Rattle.std.specs.Prelude.{IfSome, IsSome, IsNone, is_some, if◌then◌else◌}
 use Rattle.std.specs.Str.{bytes_eq}
 use Rattle.std.proofs.lemmas.Bool.{cond-true, cond-false, false_from_ne_true}
 use Rattle.std.proofs.lemmas.List.{append_cancel_left}
 use Rattle.std.proofs.lemmas.Option.{none-some}
 use Rattle.std.proofs.lemmas.Slice.Eq.{bytes_eq-Decides}
-use Rattle.flow_io.specs.Outside.{Selected, Starts, Unselected, Adds, Took}
+use Rattle.flow_io.specs.Outside.{Selected, Unselected, Adds}
 use Rattle.flow_io.proofs.Adding.{Adds-nothing}
 use Rattle.flow_io.specs.declared.status.Status.{Status}
 use Rattle.flow_io.specs.declared.status.Status.TheVariants.{Clean, Partial, Refused, Words, Fault, Memory, Long}
 use Rattle.graph_text.specs.Blocks.{blocks, complete}
 use Rattle.graph_text.proofs.Growing.{blocks-begin}
-use Rattle.flowcheck_cli.specs.Checking.{WroteFirst, WroteBeginning, PrintedBeginning, EndsRight, BeginsRight}
+use Rattle.flowcheck_cli.specs.Checking.{WroteFirst, EndsRight, BeginsRight}
 use Rattle.flowcheck_cli.specs.Inputs.{Seen, WhereSeen, left_of, taken, bytes_without, TakesFirst, IsNoOther}
-use Rattle.flowcheck_cli.specs.Run.{BothSeen, WhereBothSeen, WhereWritten, IsAtGraphs, AreLines, AreFirstLines, BeginsLines, BeginsPrinted, BeginsAt, IsPrintedWith, IsDone, Reads, Writes, blocks_at, graphs_left, graphs_taken, reports_taken}
+use Rattle.flowcheck_cli.specs.Run.{BothSeen, WhereBothSeen, WhereWritten, AreLines, AreFirstLines, BeginsLines, BeginsPrinted, BeginsAt, IsPrintedWith, IsDone, Reads, Writes, blocks_at, graphs_left, graphs_taken}
 use Rattle.flowcheck_cli.specs.Stops.{status_by}
 use Rattle.flowcheck_cli.specs.Inputs.{IsAtEnd}
 use Rattle.flowcheck_cli.specs.Words.{InputNames, names_of}
 use Rattle.flowcheck_cli.specs.declared.stop.Stop.{Stop}
 use Rattle.flowcheck_cli.specs.declared.stop.Stop.TheVariants.{Memory as OutOfMemory, Fault as Failed, Long as TooLong}
-use Rattle.flowcheck_cli.proofs.Taken.{seen_at, left-at, taken-at, where_took, first-at}
+use Rattle.flowcheck_cli.proofs.Taken.{left-at, taken-at, where_took, first-at}
 use Rattle.flowcheck_cli.proofs.Underways.{first-longer}
 
 -- names that differ

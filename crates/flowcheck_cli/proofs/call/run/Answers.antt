@@ -1,8 +1,8 @@
-use Rattle.std.proofs.Common.{◌≡◌, sym, subst}
+use Rattle.std.proofs.Common.{sym, subst}
 use Rattle.std.specs.Prelude.{IfSome}
 use Rattle.flow_io.specs.Outside.{Rose}
 use Rattle.flowcheck_cli.specs.Run.{WhereBothSeen, WhereWritten, Reads, Writes}
-use Rattle.flowcheck_cli.specs.Words.{texts, names_of}
+use Rattle.flowcheck_cli.specs.Words.{texts}
 use Rattle.flowcheck_cli.proofs.Accounts.{named_differ, some_not_none}
 use Rattle.flowcheck_cli.proofs.call.run.Goals as goal
 

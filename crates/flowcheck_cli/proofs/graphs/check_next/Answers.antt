@@ -1,4 +1,4 @@
-use Rattle.std.proofs.Common.{◌≡◌, ◌<◌, Err, length, sym, ap, ◌∙◌, arith, inl, inr, length-take}
+use Rattle.std.proofs.Common.{Err, ap, ◌∙◌, arith, inl, inr, length-take}
 use Rattle.flowcheck_cli.proofs.Pieces.{carried-more, right-read, right-ended, ended-faulty, right-stopped}
 use Rattle.flowcheck_cli.proofs.RunEnds.{stopped-fault}
 use Rattle.flowcheck_cli.proofs.graphs.check_next.Goals as goal

@@ -1,4 +1,4 @@
-use Rattle.std.proofs.Common.{◌≡◌, ◌<◌, ◌+◌, length, take, refl, ◌∙◌, arith, length-take}
+use Rattle.std.proofs.Common.{refl, ◌∙◌, arith, length-take}
 use Rattle.flow_io.proofs.Causes.{Rose-before}
 use Rattle.flowcheck_cli.proofs.Pieces.{carried-long, right-longer, either-before}
 use Rattle.flowcheck_cli.proofs.graphs.check_pieces.Goals as goal
