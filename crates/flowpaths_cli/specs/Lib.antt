@@ -13,3 +13,6 @@ pub mod Halved
 pub mod Crowds
 pub mod Run
 pub mod Reporting
+pub mod Marks
+pub mod Tally
+pub mod Generated

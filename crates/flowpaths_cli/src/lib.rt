@@ -9,6 +9,7 @@ mod counting;
 mod crowds;
 mod exact;
 mod examples;
+mod generated;
 mod given;
 mod interval;
 mod least_error;
@@ -20,6 +21,7 @@ mod searching;
 mod settings;
 mod solving;
 mod stop;
+mod tally;
 mod telling;
 mod words;
 
