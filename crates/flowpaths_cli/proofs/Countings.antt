@@ -1,5 +1,5 @@
 -- A run over a text between two parts of it, and how it goes on.
-use Rattle.std.proofs.Common.{◌≡◌, ◌≤◌, ◌+◌, ◌*◌, ℕ, List, [], ◌++◌, length, take, drop, Option, None, refl, sym, ap, subst, ◌∙◌, arith, length-append}
+use Rattle.std.proofs.Common.{◌≡◌, ◌≤◌, ◌+◌, ◌*◌, ℕ, false, List, [], ◌++◌, length, take, drop, Option, None, refl, sym, ap, subst, ◌∙◌, arith, length-append}
 use Rattle.graph_text.specs.Blocks.{TextBlock, blocks, complete}
 use Rattle.graph_text.specs.Reader.{Feeds, Ends, IsNew, IsTaken, mode_of, waiting_of, has_failed, has_finished}
 use Rattle.graph_text.specs.declared.reader.BlockReader.{BlockReader}
