@@ -1,5 +1,5 @@
 -- A block of a comment, a count and edge lines is read as a graph.
-use Rattle.std.proofs.Common.{◌≡◌, ℕ, ◌<◌, ◌≤◌, ◌^◌, Bool, true, false, not, List, [], ◌∷◌, ◌++◌, map, filter, length, drop, take, get_or, refl, sym, ap, subst, ◌∙◌, arith}
+use Rattle.std.proofs.Common.{◌≡◌, ℕ, ◌<◌, ◌≤◌, ◌^◌, Bool, true, false, not, List, [], ◌∷◌, ◌++◌, map, filter, length, drop, take, get_or, sym, ap, subst, ◌∙◌, arith}
 use Rattle.std.specs.Prelude.{All, ◌==◌, nat_lt, flat_map, decimal, sum_by, cond, None, IsOkAnd}
 use Rattle.std.specs.List.{enumerate_from, list_all, IsDistinct}
 use Rattle.std.proofs.lemmas.Bool.{cond-false, ne_eqb, le-ltb}

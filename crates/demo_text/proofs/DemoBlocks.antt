@@ -9,10 +9,9 @@ use Rattle.std.proofs.lemmas.Nat.{mod_below}
 use Rattle.std.proofs.lemmas.List.{length-map, get_or_append_left}
 use Rattle.std.proofs.lemmas.List.Elements.{All-nil, All-cons, All-append, All-map, All-weaker, All-head, All-tail}
 use Rattle.std.proofs.lemmas.List.Folds.{list_any_at}
-use Rattle.decomposition.specs.declared.Mode.TheVariants.{Exact}
 use Rattle.graph_text.specs.Lines.{is_blank_line}
 use Rattle.graph_text.specs.Blocks.{TextBlock, blocks, groups, graphs, numbered}
-use Rattle.graph_text.specs.Reading.{distinct, line_at, read}
+use Rattle.graph_text.specs.Reading.{distinct, line_at}
 use Rattle.demo_text.specs.declared.path.DemoPath.{DemoPath}
 use Rattle.demo_text.specs.Accepted.{IsPlain, BlocksAreAccepted}
 use Rattle.demo_text.specs.Demo.{next_state, drawn, paths_after, after_paths, edges_along, same_names, edges_used, weight_on, vertices_used, both_ends, edge_line, block_lines, lines_from, text_of, demo_text}

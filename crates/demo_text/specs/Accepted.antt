@@ -1,5 +1,5 @@
 -- What the blocks of the generated text are read as.
-use Rattle.std.specs.Prelude.{◌≡◌, ℕ, List, [], length, All, IsOkAnd}
+use Rattle.std.specs.Prelude.{◌≡◌, ℕ, [], length, All, IsOkAnd}
 use Rattle.decomposition.specs.declared.Mode.TheVariants.{Exact}
 use Rattle.graph_text.specs.Blocks.{TextBlock, blocks}
 use Rattle.graph_text.specs.Reading.{read}

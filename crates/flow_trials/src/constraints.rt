@@ -1,8 +1,33 @@
 //! Constraints: which lists are read, and which are refused.
 
+use crate::blocks::first_graph;
 use crate::runs::run_on;
 use flow_io::Status;
 use std::test::Fail;
+
+#[test]
+fn lists_are_read_as_runs(rt: HostRuntime) -> Result<(), Fail> {
+    let alloc = rt.alloc();
+    let rows: [(&str, &[&[u32]]); 6] = [
+        ("# x\n#S s t\n2\ns t 1\n", &[&[0]]),
+        ("# x\n#S s #t\n2\ns #t 1\n", &[&[0]]),
+        ("# x\n#S s a t\n#S a t\n3\ns a 1\na t 1\n", &[&[0, 1], &[1]]),
+        (
+            "# x\n#S a t\n# y\n\n#S  a\tt \r\n#S s a\n3\ns a 1\na t 1\n",
+            &[&[1], &[0]],
+        ),
+        ("# x\n#Sub s t\n##S s t\n2\ns t 1\n", &[]),
+        ("# x\n2\ns t 1\n#S s t\n2\ns t 1\n", &[]),
+    ];
+    for (text, runs) in rows {
+        let graph = first_graph(alloc, text)?;
+        assert_eq!(rt; graph.runs.len(), runs.len(), "how many runs {text} has");
+        for (i, run) in runs.iter().enumerate() {
+            assert!(rt; graph.runs.get(i).as_slice() == *run, "run {i} of {text}");
+        }
+    }
+    Ok(())
+}
 
 #[test]
 fn lists_are_refused(rt: HostRuntime) -> Result<(), Fail> {

@@ -1,6 +1,9 @@
 //! Trials of the top call and of the calls below it, over inputs and outputs in memory.
 #![tactic(auto)]
 
+mod answered;
+#[cfg(test)]
+mod blocks;
 #[cfg(test)]
 mod booked;
 #[cfg(test)]
@@ -24,6 +27,7 @@ mod models;
 #[cfg(test)]
 mod problems;
 #[cfg(test)]
+mod readings;
 #[cfg(test)]
 mod reports;
 #[cfg(test)]
@@ -40,4 +44,5 @@ mod trees;
 #[cfg(test)]
 mod words;
 
+pub use answered::outputs_are_answered_yes;
 pub use runs::{Ran, run, run_on};

@@ -19,6 +19,7 @@ use Rattle.path_report.specs.Laws.{IsSmall, IsSmallToken, IsSmallTrail}
 use Rattle.path_report.specs.declared.report.Trail.{Trail}
 use Rattle.flowpaths_cli.specs.Searched.{IsFoundFor, IsRefutedBy, IsSpentBy}
 use Rattle.flowpaths_cli.proofs.Bounded.{cap_small}
+use Rattle.flowpaths_cli.proofs.PathsOnce.{paths_once}
 use Rattle.flowpaths_cli.proofs.TokenPlaces.{tokens_small}
 
 -- what is said of a search's own instance and decision holds of those that it was given
@@ -58,6 +59,7 @@ settled_found mode i d old new valid settles same merged kept order =
       few = omega (arith, short, settles.few);
       within = subst (IsWithin d.limit) (sym (error-same i old new (λ e inside. kept e))) settles.within;
       order = order;
+      once = paths_once new merged.once;
       light = λ e. omega (arith, kept e, weight_on-le old e, total-light mode i d old valid settles);
     }
 

@@ -24,6 +24,7 @@ use Rattle.flowpaths_cli.specs.Firsts.{IsBeginning, IsFirstOfFlow, count_known}
 use Rattle.flowpaths_cli.specs.Right.{CountsPaths, NothingIsWithin}
 use Rattle.flowpaths_cli.specs.Room.{HasNoRoomFor, IsFlowIn}
 use Rattle.flowpaths_cli.proofs.Bounded.{bounds, highs, highs-at, lows, lows-at, within_small}
+use Rattle.flowpaths_cli.proofs.PathsOnce.{paths_once}
 
 -- where both bounds of each edge are equal, the lower bounds are the upper ones
 lows_are_highs : (rs : List Range) → list_all (λ (r : Range). r.lo == r.hi) rs ≡ true → lows rs ≡ highs rs
@@ -55,7 +56,7 @@ exact_beginning : BookedPathsAreOneList → (i : Instance) (first : Option (List
 exact_beginning one i (Some a) valid is =
     let none = error-from_decomposes i valid a (lows_made i a is.made) in
     record {
-      known = record { meets = (is.made.answer, is.covers, none); order = is.order; small = within_small Exact i a valid is.made.answer none };
+      known = record { meets = (is.made.answer, is.covers, none); order = is.order; once = paths_once a is.first.merged.once; small = within_small Exact i a valid is.made.answer none };
       few = is.few;
       at_most = λ b first. is.least (lower_bound i) b (lows-at i.ranges) first;
       fits = λ no_upper booked books fit. let no' : ⊥ = cc in no';
@@ -120,7 +121,7 @@ pub interval_known : BuiltOnBookedIsFirst → (i : Instance) (flow : List ℕ) (
 interval_known least i flow booked a valid long inside_ranges are covers few made order short keeps built =
     let none = error-from_within i (slice_index flow) a inside_ranges made in
     record {
-      known = record { meets = (made.answer, keeps i.rules covers, none); order = order; small = within_small Interval i a valid made.answer none };
+      known = record { meets = (made.answer, keeps i.rules covers, none); order = order; once = paths_once a built.merged.once; small = within_small Interval i a valid made.answer none };
       few = omega (arith, short, few);
       at_most = λ fits b first.
           let is = flow_is_highs i flow valid fits long inside_ranges in

@@ -16,8 +16,9 @@ use Rattle.path_report.specs.declared.report.Solved.{Solved}
 use Rattle.path_report.specs.declared.report.Trail.{Trail}
 use Rattle.flowpaths_cli.specs.Booking.{IsAtMostFirst, IsKnownWhereBookedFit}
 use Rattle.flowpaths_cli.specs.declared.settings.Settings.{Settings}
-use Rattle.flowpaths_cli.specs.Right.{ArePathsFor, AreListed, CountsPaths, HasCutWhereDue, HasRanges, IsAtLeastWidth, IsCertFor, IsMarked, IsTrailFor, NothingIsWithin, SolvedRight, decision_between, is_cut}
+use Rattle.flowpaths_cli.specs.Right.{ArePathsFor, AreListed, CountsPaths, HasCutWhereDue, HasEachPathOnce, HasRanges, IsAtLeastWidth, IsCertFor, IsMarked, IsTrailFor, NothingIsWithin, SolvedRight, decision_between, is_cut}
 use Rattle.flowpaths_cli.specs.Searched.{AreFewPaths, IsKnown}
+use Rattle.flowpaths_cli.proofs.PathsOnce.{nothing_once}
 
 -- a solved report
 abbrev pub said : Mark → Option ℕ → Option ℕ → List (List ℕ × ℕ) → Cert → Option Trail → Option (List (List ℕ)) → Solved
@@ -64,6 +65,7 @@ cert_for nodes mode i n (Crowd e rules) counts shown = shown
 -- What is known of a report on a graph whose paths are counted, whatever the model.
 pub record IsCounted (mode : Mode) (nodes : ℕ) (i : Instance) (r : Solved) : Type 0 where
   pub paths : ArePathsFor Interval i r.upper r.paths
+  pub once : HasEachPathOnce r.paths
   pub few : AreFewPaths i r.paths
   pub first : IsAtMostFirst mode i r.upper
   pub known : IsKnownWhereBookedFit mode i r.upper
@@ -82,6 +84,7 @@ paths_exact i (Some u) a are = are
 pub right_for : (mode : Mode) (set : Settings) (i : Instance) (r : Solved) → CountsPaths mode → IsCounted mode set.nodes i r → AreListed set i r.safe → SolvedRight (record set { mode = mode }) i r
 right_for Exact set i r counts c listed = record {
   paths = paths_exact i r.upper r.paths c.paths;
+  once = c.once;
   few = c.few;
   first = c.first;
   known = c.known;
@@ -95,6 +98,7 @@ right_for Exact set i r counts c listed = record {
 }
 right_for Interval set i r counts c listed = record {
   paths = c.paths;
+  once = c.once;
   few = c.few;
   first = c.first;
   known = c.known;
@@ -137,6 +141,7 @@ pub counted_optimal : (mode : Mode) (nodes : ℕ) (i : Instance) (a : List (List
     → IsCounted mode nodes i (said Optimal (Some value) (Some value) a cert None runs)
 counted_optimal mode nodes i a es value cert runs known few first fits wide above equal bound shown cut = record {
   paths = (known.meets, sym equal);
+  once = known.once;
   few = few;
   first = subst (λ n. IsAtMostFirst mode i (Some n)) (sym equal) first;
   known = λ none. absurd (let no' : ⊥ = cc in no');
@@ -150,11 +155,12 @@ counted_optimal mode nodes i a es value cert runs known few first fits wide abov
 
 -- an answer and a lower bound, with the trail of the search that was spent
 pub counted_bounds : (mode : Mode) (nodes : ℕ) (i : Instance) (es : List ℕ) (value : ℕ) (upper : Option ℕ) (a : List (List ℕ × ℕ)) (cert : Cert) (trail : Trail) (runs : Option (List (List ℕ)))
-    → ArePathsFor Interval i upper a → AreFewPaths i a → IsAtMostFirst mode i upper → IsKnownWhereBookedFit mode i upper → IsWidth i (length es) → IsAntichain i es
+    → ArePathsFor Interval i upper a → HasEachPathOnce a → AreFewPaths i a → IsAtMostFirst mode i upper → IsKnownWhereBookedFit mode i upper → IsWidth i (length es) → IsAntichain i es
     → value ≡ length es → IfSome upper (λ u. value < u) → IsCertFor nodes mode i value cert → HasCutWhereDue mode i cert → IsTrailFor nodes mode i value upper trail
     → IsCounted mode nodes i (said Bounds (Some value) upper a cert (Some trail) runs)
-counted_bounds mode nodes i es value upper a cert trail runs are few first fits wide chain many above shown cut spent = record {
+counted_bounds mode nodes i es value upper a cert trail runs are once few first fits wide chain many above shown cut spent = record {
   paths = are;
+  once = once;
   few = few;
   first = first;
   known = fits;
@@ -172,6 +178,7 @@ pub counted_none : (mode : Mode) (nodes : ℕ) (i : Instance) (cert : Cert) (run
     → IsCounted mode nodes i (said Infeasible None None [] cert None runs)
 counted_none mode nodes i cert runs first fits marked cut never = record {
   paths = refl;
+  once = nothing_once;
   few = omega arith;
   first = first;
   known = fits;

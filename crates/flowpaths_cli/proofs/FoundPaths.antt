@@ -14,5 +14,6 @@ found_known i d a valid none found =
     record {
       meets = (found.answer, found.covers, zero_error);
       order = found.order;
+      once = found.once;
       small = within_small Interval i a valid found.answer zero_error;
     }

@@ -1,21 +1,17 @@
 -- Searches for less error, each for half of what lies between the bounds.
-use Rattle.std.proofs.Common.{◌≡◌, ℕ, ◌+◌, ◌-◌, ◌*◌, ◌/◌, ◌≤◌, ◌<◌, ◌^◌, List, [], ◌∷◌, Some, Result, Ok, Err, nat_lt, length, refl, sym, ap, subst, ◌∙◌, inl, inr, arith, ltb-true}
+use Rattle.std.proofs.Common.{◌≡◌, ℕ, ◌+◌, ◌-◌, ◌*◌, ◌/◌, ◌≤◌, ◌<◌, ◌^◌, List, [], ◌∷◌, Some, Result, Ok, Err, length, refl, ap, subst, ◌∙◌, inl, inr, arith}
 use Rattle.std.specs.Prelude.{IfOk}
 use Rattle.std.proofs.lemmas.Bool.{cases_Bool}
 use Rattle.std.proofs.lemmas.List.{length-map}
-use Rattle.std.proofs.lemmas.List.Sums.{sum_by-cons}
 use Rattle.decomposition.specs.declared.Mode.TheVariants.{Abs}
 use Rattle.decomposition.specs.declared.Decision.{Decision}
-use Rattle.decomposition.specs.Answer.{Covers, HaveSamePaths, IsAnswer, IsInReportOrder, IsMerged, total_weight, weight_on}
+use Rattle.decomposition.specs.Answer.{weight_on}
 use Rattle.decomposition.specs.Certificates.{IsBoundingTree, decision_below}
 use Rattle.decomposition.specs.FirstAnswer.{with_unit}
 use Rattle.decomposition.specs.Graph.{edge_count, has_edge}
 use Rattle.decomposition.specs.Instance.{Instance, IsInstance, error}
 use Rattle.decomposition.specs.Tokens.{IsRefutation}
-use Rattle.decomposition.proofs.FewPaths.{error-same}
-use Rattle.decomposition.proofs.FirstAnswers.{merged_least}
-use Rattle.decomposition.proofs.Merging.{Covers-same_paths, IsAnswer-same_paths}
-use Rattle.decomposition.proofs.Root.{all-place, trees_bound}
+use Rattle.decomposition.proofs.Root.{trees_bound}
 use Rattle.greedy_paths.specs.Booking.{AreBooked}
 use Rattle.greedy_paths.specs.Laws.{BookedPathsAreOneList}
 use Rattle.path_report.specs.declared.report.Cert.{Cert}
@@ -38,6 +34,7 @@ known_by : (k : ℕ) (i : Instance) (d : Decision) (a : List (List ℕ × ℕ)) 
 known_by k i d a few same found = record {
   meets = (found.answer, found.covers, omega (arith, same, found.few));
   order = found.order;
+  once = found.once;
   small = λ n entry there. omega (arith, few, same, entries_small i.graph (d.slots * 1000000000000) a found.answer (λ e inside. found.light e) n entry there);
 }
 
@@ -105,33 +102,15 @@ units-le (p ∷ ps) e =
 length-with_unit : (ps : List (List ℕ)) → length (with_unit ps) ≡ length ps
 length-with_unit ps = length-map ps (λ (p : List ℕ). (p, 1))
 
-total-with_unit : (ps : List (List ℕ)) → total_weight (with_unit ps) ≡ length ps
-total-with_unit [] = refl
-total-with_unit (p ∷ ps) = omega (arith, sum_by-cons (λ (entry : List ℕ × ℕ). entry.1) (p, 1) (with_unit ps), total-with_unit ps)
+pub booked_units : (i : Instance) (f : ℕ → ℕ) (booked : List (List ℕ × ℕ)) → AreBooked i.graph f i.rules booked → (e : ℕ) → weight_on booked e ≤ length booked
+booked_units i f booked (ps, is, books) e = omega (arith, ap (λ xs. weight_on xs e) is, units-le ps e, length-with_unit ps, ap length is)
 
-pub booked_total : (i : Instance) (f : ℕ → ℕ) (booked : List (List ℕ × ℕ)) → AreBooked i.graph f i.rules booked → total_weight booked ≡ length booked
-booked_total i f booked (ps, is, books) = subst (λ (xs : List (List ℕ × ℕ)). total_weight xs ≡ length xs) (sym is) (total-with_unit ps ∙ sym (length-with_unit ps))
-
--- the booked paths, with equal ones made one, answer the decision that asks for at most k paths
-pub booked_found : (k : ℕ) (i : Instance) (f : ℕ → ℕ) (booked new : List (List ℕ × ℕ)) → AreBooked i.graph f i.rules booked → IsAnswer i.graph booked → Covers i.rules booked → length booked ≤ k
-    → HaveSamePaths booked new → IsMerged booked new → ((e : ℕ) → weight_on new e ≡ weight_on booked e) → IsInReportOrder new → IsFoundFor i (any_error k) new
-booked_found k i f booked new (ps, is, books) answer covers few same merged kept order =
-    let short : length new ≤ length booked = merged_least new booked merged.once merged.positive merged.same in
-    record {
-      answer = IsAnswer-same_paths i.graph booked new same (λ n e there. ltb-true 0 _ (all-place (λ (entry : List ℕ × ℕ). nat_lt 0 entry.1) new e n merged.positive there)) answer;
-      covers = Covers-same_paths i.rules booked new same covers;
-      few = omega (arith, short, few);
-      within = tt;
-      order = order;
-      light = λ e. omega (arith, kept e, ap (λ xs. weight_on xs e) is, units-le ps e, length-with_unit ps, ap length is, few);
-    }
-
--- with their error
+-- an answer with no more error than the booked paths
 pub booked_error : BookedPathsAreOneList → (k : ℕ) (i : Instance) (f : ℕ → ℕ) (booked new : List (List ℕ × ℕ)) → IsInstance (Abs k) i → ((e : ℕ) → f e ≡ upper_bound i e) → AreBooked i.graph f i.rules booked
-    → ((e : ℕ) → weight_on new e ≡ weight_on booked e) → IsNoWorseThanBooked k i (Found new)
-booked_error one k i f booked new valid bounds (ps, is, books) kept others other_books few =
+    → error i new ≤ error i booked → IsNoWorseThanBooked k i (Found new)
+booked_error one k i f booked new valid bounds (ps, is, books) nearer others other_books few =
     let equal : ps ≡ others = one i.graph f (upper_bound i) i.rules ps others bounds valid.runs books other_books in
-    omega (arith, error-same i booked new (λ e inside. kept e), ap (error i) (is ∙ ap with_unit equal))
+    omega (arith, nearer, ap (error i) (is ∙ ap with_unit equal))
 
 -- where more than k paths are booked, nothing is asked
 not_asked : (k : ℕ) (i : Instance) (attempt : Attempt) → ((booked : List (List ℕ)) → AreBookedFor i booked → length booked ≤ k → ⊥) → IsNoWorseThanBooked k i attempt

@@ -16,6 +16,7 @@ use Rattle.flowpaths_cli.specs.Halved.{IsBetween, IsSpentBetween}
 use Rattle.flowpaths_cli.specs.Right.{SolvedRight}
 use Rattle.flowpaths_cli.specs.Searched.{IsNoWorseThanBooked, IsRefutedBy, IsSpentBy, any_error}
 use Rattle.flowpaths_cli.proofs.CountedRight.{said}
+use Rattle.flowpaths_cli.proofs.PathsOnce.{nothing_once}
 use Rattle.flowpaths_cli.proofs.Solved.{found_in, trail_for}
 
 -- the bounds meet
@@ -25,6 +26,7 @@ right_at_least s k i a lower upper cert mode unsafe between meet first =
     let r = said Optimal (Some lower) (Some upper) a cert None None in
     let here : SolvedRight (record s { mode = Abs k }) i r = record {
       paths = (between.known.meets, between.upper_is);
+      once = between.known.once;
       few = tt;
       first = first;
       known = λ none. absurd (let no' : ⊥ = cc in no');
@@ -45,6 +47,7 @@ right_between s k i a lower upper cert trail mode unsafe between spent first =
     let r = said Bounds (Some lower) (Some upper) a cert (Some trail) None in
     let here : SolvedRight (record s { mode = Abs k }) i r = record {
       paths = (between.known.meets, between.upper_is);
+      once = between.known.once;
       few = tt;
       first = first;
       known = λ none. absurd (let no' : ⊥ = cc in no');
@@ -65,6 +68,7 @@ right_open s k i trail mode unsafe spent never =
     let r = said Bounds (Some 0) None [] Zero (Some trail) None in
     let here : SolvedRight (record s { mode = Abs k }) i r = record {
       paths = refl;
+      once = nothing_once;
       few = tt;
       first = never;
       known = λ none. never;
@@ -85,6 +89,7 @@ right_never s k i tree mode unsafe valid refuted never =
     let r = said Infeasible None None [] (Tree tree) None None in
     let here : SolvedRight (record s { mode = Abs k }) i r = record {
       paths = refl;
+      once = nothing_once;
       few = tt;
       first = never;
       known = λ none. never;

@@ -6,6 +6,7 @@ pub mod Inputs
 pub mod Accounts
 pub mod Bounded
 pub mod Widths
+pub mod PathsOnce
 pub mod CountedRight
 pub mod Solved
 pub mod TokenPlaces
@@ -13,7 +14,9 @@ pub mod Attempts
 pub mod Beginnings
 pub mod FoundPaths
 pub mod Raising
+pub mod Thinning
 pub mod Halving
+pub mod Widening
 pub mod LeastError
 pub mod Problems
 pub mod Facts
@@ -27,3 +30,4 @@ pub mod Tallies
 pub mod Countings
 pub mod SolvedGraphs
 pub mod GeneratedRuns
+pub mod Acceptance

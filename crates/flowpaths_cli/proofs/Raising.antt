@@ -1,4 +1,4 @@
--- Ranges whose lower bounds are raised to the units of booked paths.
+-- Ranges whose lower bounds are raised to given numbers, as the units of booked paths.
 use Rattle.std.proofs.Common.{◌≡◌, ℕ, ◌+◌, ◌≤◌, ◌<◌, max, List, [], ◌∷◌, ◌++◌, true, ◌&&◌, nat_le, Option, Some, None, Result, Ok, Err, length, length-append, get_or, refl, sym, ap, subst, ◌∙◌, inl, inr, arith, leb-true, le-leb}
 use Rattle.std.specs.List.{list_all}
 use Rattle.std.specs.Prelude.{IfOk, MatchOption, slice_index}
@@ -19,23 +19,23 @@ use Rattle.lower_flow.specs.declared.found.FlowOrCut.{FlowOrCut}
 use Rattle.lower_flow.specs.declared.found.FlowOrCut.TheVariants.{Flow, InCut, OutCut}
 use Rattle.lower_flow.specs.Found.{IsFlowOrCut}
 use Rattle.flowpaths_cli.specs.Right.{NothingIsWithin}
-use Rattle.flowpaths_cli.specs.Room.{AreRaised, AreRaisedBefore, HasNoRoomFor, HasRoomFor, IsFlowIn, IsPassed, ranged}
+use Rattle.flowpaths_cli.specs.Room.{AreRaised, AreRaisedBefore, HasNoneAbove, HasNoRoomFor, HasRoomFor, IsFlowAbove, IsFlowIn, IsPassed, ranged}
 
 abbrev none : Range
 none = record { lo = 0; hi = 0 }
 
 -- one range more
-pub raised-more : (n : ℕ) (ranges : List Range) (units : List ℕ) (raised : List Range) (low high : ℕ) → AreRaisedBefore n ranges units raised
-    → low ≡ max (range_at ranges n).lo (slice_index units n) → high ≡ (range_at ranges n).hi → slice_index units n ≤ (range_at ranges n).hi
-    → AreRaisedBefore (n + 1) ranges units (raised ++ record { lo = low; hi = high } ∷ [])
-raised-more n ranges units raised low high before is_low is_high fits =
+pub raised-more : (n : ℕ) (ranges : List Range) (least : List ℕ) (raised : List Range) (low high : ℕ) → AreRaisedBefore n ranges least raised
+    → low ≡ max (range_at ranges n).lo (slice_index least n) → high ≡ (range_at ranges n).hi → slice_index least n ≤ (range_at ranges n).hi
+    → AreRaisedBefore (n + 1) ranges least (raised ++ record { lo = low; hi = high } ∷ [])
+raised-more n ranges least raised low high before is_low is_high fits =
     let r : Range = record { lo = low; hi = high } in
     let last : range_at (raised ++ r ∷ []) n ≡ r = subst (λ m. get_or (raised ++ r ∷ []) m none ≡ r) before.count (get_or-append_seam raised r [] none) in
     let old : (e : ℕ) → e < n → range_at (raised ++ r ∷ []) e ≡ range_at raised e = λ e there. get_or-append raised (r ∷ []) none e (omega (arith, there, before.count)) in
     record {
       count = omega (arith, length-append raised (r ∷ []), before.count);
       low = λ e there. elim (cases_eq e n) [
-        | inl is ↦ subst (λ m. (range_at (raised ++ r ∷ []) m).lo ≡ max (range_at ranges m).lo (slice_index units m)) (sym is) (ap (λ (s : Range). s.lo) last ∙ is_low)
+        | inl is ↦ subst (λ m. (range_at (raised ++ r ∷ []) m).lo ≡ max (range_at ranges m).lo (slice_index least m)) (sym is) (ap (λ (s : Range). s.lo) last ∙ is_low)
         | inr other ↦ ap (λ (s : Range). s.lo) (old e (omega (arith, there, other))) ∙ before.low e (omega (arith, there, other))
       ];
       high = λ e there. elim (cases_eq e n) [
@@ -43,15 +43,15 @@ raised-more n ranges units raised low high before is_low is_high fits =
         | inr other ↦ ap (λ (s : Range). s.hi) (old e (omega (arith, there, other))) ∙ before.high e (omega (arith, there, other))
       ];
       fits = λ e there. elim (cases_eq e n) [
-        | inl is ↦ subst (λ m. slice_index units m ≤ (range_at ranges m).hi) (sym is) fits
+        | inl is ↦ subst (λ m. slice_index least m ≤ (range_at ranges m).hi) (sym is) fits
         | inr other ↦ before.fits e (omega (arith, there, other))
       ];
     }
 
 -- raised ranges are ranges
-pub raised-bounded : (ranges : List Range) (units : List ℕ) (raised : List Range) → list_all (λ (r : Range). nat_le r.lo r.hi && nat_le r.hi 1000000000000) ranges ≡ true → AreRaised ranges units raised
+pub raised-bounded : (ranges : List Range) (least : List ℕ) (raised : List Range) → list_all (λ (r : Range). nat_le r.lo r.hi && nat_le r.hi 1000000000000) ranges ≡ true → AreRaised ranges least raised
     → list_all (λ (r : Range). nat_le r.lo r.hi && nat_le r.hi 1000000000000) raised ≡ true
-raised-bounded ranges units raised bounded are =
+raised-bounded ranges least raised bounded are =
     all-from_places (λ (r : Range). nat_le r.lo r.hi && nat_le r.hi 1000000000000) raised none
     (λ e there.
     let inside : e < length ranges = omega (arith, there, are.count) in
@@ -61,10 +61,9 @@ raised-bounded ranges units raised bounded are =
     and_from (nat_le (range_at raised e).lo (range_at raised e).hi) (nat_le (range_at raised e).hi 1000000000000)
     (le-leb _ _ (omega (arith, are.low e inside, are.high e inside, are.fits e inside, low))) (le-leb _ _ (omega (arith, are.high e inside, high))))
 
--- a flow within the raised ranges has room for the booked paths
-pub raised-room : (g : Graph) (ranges raised : List Range) (units : List ℕ) (booked : List (List ℕ × ℕ)) (flow : List ℕ) → length ranges ≡ edge_count g → AreUnits g booked units → AreRaised ranges units raised
-    → IsFlowIn g raised flow → HasRoomFor g ranges booked flow
-raised-room g ranges raised units booked flow one_each counts are (long, f) = record {
+-- a flow within the raised ranges is at least the numbers
+pub raised-above : (g : Graph) (ranges raised : List Range) (least flow : List ℕ) → length ranges ≡ edge_count g → AreRaised ranges least raised → IsFlowIn g raised flow → IsFlowAbove g ranges least flow
+raised-above g ranges raised least flow one_each are (long, f) = record {
   within = (
     long,
     record {
@@ -73,30 +72,28 @@ raised-room g ranges raised units booked flow one_each counts are (long, f) = re
       high = λ e inside. omega (arith, f.high e inside, are.high e (omega (arith, inside, one_each)));
     },
   );
-  units = λ e inside. omega (arith, f.low e inside, are.low e (omega (arith, inside, one_each)), counts.each e inside);
+  above = λ e inside. omega (arith, f.low e inside, are.low e (omega (arith, inside, one_each)));
 }
 
--- no room where the units of an edge pass its upper bound
-pub passed-no_room : (g : Graph) (ranges : List Range) (units : List ℕ) (booked : List (List ℕ × ℕ)) → length ranges ≡ edge_count g → AreUnits g booked units → IsPassed ranges units → HasNoRoomFor g ranges booked
-passed-no_room g ranges units booked one_each counts (e, there, passed) a answer zero_error above =
+-- there is none where the number of an edge passes its upper bound
+pub passed-none : (g : Graph) (ranges : List Range) (least : List ℕ) → length ranges ≡ edge_count g → IsPassed ranges least → HasNoneAbove g ranges least
+passed-none g ranges least one_each (e, there, passed) a answer zero_error above =
     let inside : e < edge_count g = omega (arith, there, one_each) in
-    omega (arith, passed, counts.each e inside, above e inside, (within (ranged g ranges) a e zero_error inside).1)
+    omega (arith, passed, above e inside, (within (ranged g ranges) a e zero_error inside).1)
 
--- weighted paths that have room lie within the raised ranges
-room-raised : (g : Graph) (ranges raised : List Range) (units : List ℕ) (booked a : List (List ℕ × ℕ)) → length ranges ≡ edge_count g → AreUnits g booked units → AreRaised ranges units raised
-    → error (ranged g ranges) a ≡ 0 → ((e : ℕ) → e < edge_count g → weight_on booked e ≤ weight_on a e) → error (ranged g raised) a ≡ 0
-room-raised g ranges raised units booked a one_each counts are zero_error above =
+-- weighted paths within the ranges that put as much on the edges lie within the raised ranges
+above-raised : (g : Graph) (ranges raised : List Range) (least : List ℕ) (a : List (List ℕ × ℕ)) → length ranges ≡ edge_count g → AreRaised ranges least raised
+    → error (ranged g ranges) a ≡ 0 → ((e : ℕ) → e < edge_count g → slice_index least e ≤ weight_on a e) → error (ranged g raised) a ≡ 0
+above-raised g ranges raised least a one_each are zero_error above =
     sum_below-nil (λ e. distance (range_at raised e) (weight_on a e)) (edge_count g)
     (λ e inside.
     let both = within (ranged g ranges) a e zero_error inside in
     let there : e < length ranges = omega (arith, inside, one_each) in
-    omega (arith, both.0, both.1, are.low e there, are.high e there, counts.each e inside, above e inside))
+    omega (arith, both.0, both.1, are.low e there, are.high e there, above e inside))
 
--- so there is no room where nothing lies within the raised ranges
-pub nothing-no_room : (g : Graph) (ranges raised : List Range) (units : List ℕ) (booked : List (List ℕ × ℕ)) → length ranges ≡ edge_count g → AreUnits g booked units → AreRaised ranges units raised
-    → NothingIsWithin (ranged g raised) → HasNoRoomFor g ranges booked
-nothing-no_room g ranges raised units booked one_each counts are none a answer zero_error above =
-    none a answer (room-raised g ranges raised units booked a one_each counts are zero_error above)
+-- so there are none where nothing lies within the raised ranges
+nothing-none : (g : Graph) (ranges raised : List Range) (least : List ℕ) → length ranges ≡ edge_count g → AreRaised ranges least raised → NothingIsWithin (ranged g raised) → HasNoneAbove g ranges least
+nothing-none g ranges raised least one_each are none a answer zero_error above = none a answer (above-raised g ranges raised least a one_each are zero_error above)
 
 -- nothing lies within ranges that have no flow
 pub no_flow : (g : Graph) (ranges : List Range) (r : FlowOrCut) → IsNet g → IsFlowOrCut g ranges r → ((flow : List ℕ) → r ≡ Flow flow → ⊥) → NothingIsWithin (ranged g ranges)
@@ -104,14 +101,31 @@ no_flow g ranges (Flow flow) net is not_flow = absurd (not_flow flow refl)
 no_flow g ranges (InCut xs) net is not_flow = λ a answer zero_error. cuts_refute (ranged g ranges) Entering xs a net is.0 answer zero_error
 no_flow g ranges (OutCut xs) net is not_flow = λ a answer zero_error. cuts_refute (ranged g ranges) Leaving xs a net is.0 answer zero_error
 
--- a flow within the raised ranges, or none, tells whether there is room
-pub room_of : (g : Graph) (ranges raised : List Range) (units : List ℕ) (booked : List (List ℕ × ℕ)) (found : Option (List ℕ)) → length ranges ≡ edge_count g → AreUnits g booked units → AreRaised ranges units raised
-    → MatchOption found (NothingIsWithin (ranged g raised)) (IsFlowIn g raised) → MatchOption found (HasNoRoomFor g ranges booked) (HasRoomFor g ranges booked)
-room_of g ranges raised units booked None one_each counts are is = nothing-no_room g ranges raised units booked one_each counts are is
-room_of g ranges raised units booked (Some flow) one_each counts are is = raised-room g ranges raised units booked flow one_each counts are is
+-- a flow within the raised ranges, or none, tells whether there is one that is at least the numbers
+above_of : (g : Graph) (ranges raised : List Range) (least : List ℕ) (found : Option (List ℕ)) → length ranges ≡ edge_count g → AreRaised ranges least raised
+    → MatchOption found (NothingIsWithin (ranged g raised)) (IsFlowIn g raised) → MatchOption found (HasNoneAbove g ranges least) (IsFlowAbove g ranges least)
+above_of g ranges raised least None one_each are is = nothing-none g ranges raised least one_each are is
+above_of g ranges raised least (Some flow) one_each are is = raised-above g ranges raised least flow one_each are is
 
 -- the same, where there was memory
-pub room_if_ok : {E : Type 0} (g : Graph) (ranges raised : List Range) (units : List ℕ) (booked : List (List ℕ × ℕ)) (r : Result (Option (List ℕ)) E) → length ranges ≡ edge_count g → AreUnits g booked units → AreRaised ranges units raised
-    → IfOk r (λ found. MatchOption found (NothingIsWithin (ranged g raised)) (IsFlowIn g raised)) → IfOk r (λ found. MatchOption found (HasNoRoomFor g ranges booked) (HasRoomFor g ranges booked))
-room_if_ok g ranges raised units booked (Ok found) one_each counts are is = room_of g ranges raised units booked found one_each counts are is
-room_if_ok g ranges raised units booked (Err e) one_each counts are is = tt
+pub above_if_ok : {E : Type 0} (g : Graph) (ranges raised : List Range) (least : List ℕ) (r : Result (Option (List ℕ)) E) → length ranges ≡ edge_count g → AreRaised ranges least raised
+    → IfOk r (λ found. MatchOption found (NothingIsWithin (ranged g raised)) (IsFlowIn g raised)) → IfOk r (λ found. MatchOption found (HasNoneAbove g ranges least) (IsFlowAbove g ranges least))
+above_if_ok g ranges raised least (Ok found) one_each are is = above_of g ranges raised least found one_each are is
+above_if_ok g ranges raised least (Err e) one_each are is = tt
+
+-- a flow that is at least the units of booked paths has room for them
+pub above-room : (g : Graph) (ranges : List Range) (least : List ℕ) (booked : List (List ℕ × ℕ)) (flow : List ℕ) → ((e : ℕ) → e < edge_count g → weight_on booked e ≤ slice_index least e)
+    → IsFlowAbove g ranges least flow → HasRoomFor g ranges booked flow
+above-room g ranges least booked flow units is = record { within = is.within; units = λ e inside. omega (arith, units e inside, is.above e inside) }
+
+-- so what has none above the units has no room
+room_of : (g : Graph) (ranges : List Range) (units : List ℕ) (booked : List (List ℕ × ℕ)) (found : Option (List ℕ)) → AreUnits g booked units
+    → MatchOption found (HasNoneAbove g ranges units) (IsFlowAbove g ranges units) → MatchOption found (HasNoRoomFor g ranges booked) (HasRoomFor g ranges booked)
+room_of g ranges units booked None counts is = λ a answer zero_error above. is a answer zero_error (λ e inside. omega (arith, counts.each e inside, above e inside))
+room_of g ranges units booked (Some flow) counts is = above-room g ranges units booked flow (λ e inside. omega (arith, counts.each e inside)) is
+
+-- the same, where there was memory
+pub room_if_ok : {E : Type 0} (g : Graph) (ranges : List Range) (units : List ℕ) (booked : List (List ℕ × ℕ)) (r : Result (Option (List ℕ)) E) → AreUnits g booked units
+    → IfOk r (λ found. MatchOption found (HasNoneAbove g ranges units) (IsFlowAbove g ranges units)) → IfOk r (λ found. MatchOption found (HasNoRoomFor g ranges booked) (HasRoomFor g ranges booked))
+room_if_ok g ranges units booked (Ok found) counts is = room_of g ranges units booked found counts is
+room_if_ok g ranges units booked (Err e) counts is = tt

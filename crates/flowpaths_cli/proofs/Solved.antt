@@ -30,6 +30,7 @@ use Rattle.flowpaths_cli.specs.declared.settings.Settings.{Settings}
 use Rattle.flowpaths_cli.specs.Right.{AreListed, CountsPaths, IsCertFor, IsTrailFor, NothingIsWithin, SolvedRight, decision_between, is_cut}
 use Rattle.flowpaths_cli.specs.Searched.{IsSolvedBy, IsSpentBy}
 use Rattle.flowpaths_cli.proofs.CountedRight.{said, all_same, between_same, cert_for, counted_bounds, counted_none, counted_optimal, no_cut, right_for, width_bounds, with_ranges, one_width}
+use Rattle.flowpaths_cli.proofs.PathsOnce.{nothing_once}
 
 -- a search that was spent shows a trail for its decision
 pub trail_for : (nodes : ℕ) (mode : Mode) (i : Instance) (d : Decision) (lower : ℕ) (upper : Option ℕ) (trail : Trail) → IsSpentBy nodes i d trail → d ≡ decision_between mode i lower upper → IsTrailFor nodes mode i lower upper trail
@@ -75,7 +76,7 @@ pub right_by_trail : (s : Settings) (i : Instance) (a : List (List ℕ × ℕ)) 
 right_by_trail s i a es lower upper cert trail runs counts listed by counted many shown other =
     let more : length es < length a = by.finds.2.0 in
     let spent = trail_for s.nodes s.mode i (decision_below Interval i (length a)) lower (Some (length a)) trail by.finds.2.1 (between_same s.mode i lower (length a) counts) in
-    let facts = counted_bounds s.mode s.nodes i es lower (Some (length a)) a cert trail runs (by.finds.0.meets, refl) by.finds.1 by.first by.known by.wide by.antichain many (omega (arith, many, more))
+    let facts = counted_bounds s.mode s.nodes i es lower (Some (length a)) a cert trail runs (by.finds.0.meets, refl) by.finds.0.once by.finds.1 by.first by.known by.wide by.antichain many (omega (arith, many, more))
     (cert_for s.nodes s.mode i lower cert counts (subst (λ n. IsCertFor s.nodes Interval i n cert) (sym many) shown)) (no_cut s.mode i cert other by.within) spent in
     subst (λ n. SolvedRight s i (said Bounds (Some lower) (Some n) a cert (Some trail) runs)) (sym counted) (right_for s.mode s i _ counts facts listed)
 
@@ -84,7 +85,7 @@ pub right_by_open : (s : Settings) (i : Instance) (es : List ℕ) (lower : ℕ) 
     → lower ≡ length es → IsCertFor s.nodes Interval i (length es) cert → is_cut cert ≡ false → SolvedRight s i (said Bounds (Some lower) None [] cert (Some trail) runs)
 right_by_open s i es lower cert trail runs counts listed by many shown other =
     let spent = trail_for s.nodes s.mode i (decision_at_all Interval i) lower None trail by.finds (all_same s.mode i counts) in
-    let facts = counted_bounds s.mode s.nodes i es lower None [] cert trail runs refl (omega arith) by.first by.known by.wide by.antichain many tt
+    let facts = counted_bounds s.mode s.nodes i es lower None [] cert trail runs refl nothing_once (omega arith) by.first by.known by.wide by.antichain many tt
     (cert_for s.nodes s.mode i lower cert counts (subst (λ n. IsCertFor s.nodes Interval i n cert) (sym many) shown)) (no_cut s.mode i cert other by.within) spent in
     right_for s.mode s i _ counts facts listed
 

@@ -5,7 +5,7 @@ use Rattle.decomposition.specs.declared.Mode.TheVariants.{Interval}
 use Rattle.decomposition.specs.Graph.{Graph, edge_count}
 use Rattle.decomposition.specs.Answer.{Covers, IsInReportOrder}
 use Rattle.decomposition.specs.Certificates.{IsCut}
-use Rattle.decomposition.specs.FirstAnswer.{IsBooked, BookingFits}
+use Rattle.decomposition.specs.FirstAnswer.{IsBooked, BookingFits, IsFirstAnswer}
 use Rattle.decomposition.specs.Flow.{Decomposes}
 use Rattle.decomposition.specs.Instance.{Instance}
 use Rattle.greedy_paths.specs.Built.{IsLeastFirst, HasNoFirst}
@@ -22,6 +22,7 @@ pub record IsFirst (g : Graph) (flow : ℕ → ℕ) (rules : List (List ℕ)) (a
   pub covers : Covers rules a
   pub order : IsInReportOrder a
   pub few : length a ≤ edge_count g + length rules
+  pub first : IsFirstAnswer g flow rules a
   pub least : IsLeastFirst g flow rules a
 
 -- the booked paths of the rules pass the flow, so there is no first answer

@@ -10,9 +10,11 @@ pub mod Searched
 pub mod Firsts
 pub mod Room
 pub mod Halved
+pub mod Widened
 pub mod Crowds
 pub mod Run
 pub mod Reporting
 pub mod Marks
 pub mod Tally
 pub mod Generated
+pub mod AcceptedReports

@@ -1,5 +1,5 @@
 -- When a report is right for a block, and the status of a run.
-use Rattle.std.specs.Prelude.{◌≤◌, ◌<◌, ◌≡◌, ◌+◌, ◌/◌, ◌↔◌, ℕ, List, [], length, Bool, true, false, if◌then◌else◌, Option, None, Some, is_some, IfSome, Result, Ok, Err, IsSomeAnd, IsTrue}
+use Rattle.std.specs.Prelude.{◌≤◌, ◌<◌, ◌≡◌, ◌≢◌, ◌+◌, ◌/◌, ◌↔◌, ℕ, List, [], length, Bool, true, false, if◌then◌else◌, Option, None, Some, is_some, IfSome, Result, Ok, Err, IsSomeAnd, IsTrue, AllPairs}
 use Rattle.std.specs.List.{list_any}
 use Rattle.decomposition.specs.declared.Mode.{Mode}
 use Rattle.decomposition.specs.declared.Mode.TheVariants.{Exact, Interval, Abs}
@@ -129,6 +129,10 @@ abbrev pub ArePathsFor : Mode → Instance → Option ℕ → List (List ℕ × 
 ArePathsFor mode i None paths = paths ≡ []
 ArePathsFor mode i (Some upper) paths = Meets mode i paths × (objective mode i paths ≡ upper)
 
+-- no path stands twice
+abbrev pub HasEachPathOnce : List (List ℕ × ℕ) → Type 0
+HasEachPathOnce a = AllPairs (λ x y. x.0 ≢ y.0) a
+
 -- there are at most as many paths as edges and runs that must be covered, where the number of paths is to be least
 abbrev pub AreFew : Mode → Instance → List (List ℕ × ℕ) → Type 0
 AreFew Exact i paths = length paths ≤ edge_count i.graph + length i.rules
@@ -159,11 +163,12 @@ HasCutWhereDue mode i cert = HasRanges mode → IsTrue (is_cut cert) ↔ Nothing
 abbrev pub AreListed : Settings → Instance → Option (List (List ℕ)) → Type 0
 AreListed set i runs = (is_some runs ≡ set.safe) × IfSome runs (AreMaximal (IsSafe i))
 
--- A solved report is right and true for an instance: its paths meet the model with `upper` as their value, and are no worse than the first
--- answer; what the mark says of bounds, certificate and trail holds; the runs listed are the maximal safe ones; no answer is below `lower`; the
+-- A solved report is right and true for an instance: its paths meet the model with `upper` as their value, are no worse than the first
+-- answer, and none stands twice; what the mark says of bounds, certificate and trail holds; the runs listed are the maximal safe ones; no answer is below `lower`; the
 -- paths of an optimal one are best, and where the mark is infeasible nothing meets.
 pub record SolvedRight (set : Settings) (i : Instance) (s : Solved) : Type 0 where
   pub paths : ArePathsFor set.mode i s.upper s.paths
+  pub once : HasEachPathOnce s.paths
   pub few : AreFew set.mode i s.paths
   pub first : IsAtMostFirst set.mode i s.upper
   pub known : IsKnownWhereBookedFit set.mode i s.upper

@@ -14,7 +14,7 @@ use Rattle.decomposition.specs.Width.{IsAntichain, IsWidth}
 use Rattle.path_report.specs.Laws.{IsSmallTrail, AreRisingEdges, AreRisingRules}
 use Rattle.path_report.specs.declared.report.Trail.{Trail}
 use Rattle.flowpaths_cli.specs.Booking.{AreBookedFor, IsAtMostFirst, IsKnownWhereBookedFit}
-use Rattle.flowpaths_cli.specs.Right.{HasRanges, NothingIsWithin}
+use Rattle.flowpaths_cli.specs.Right.{HasEachPathOnce, HasRanges, NothingIsWithin}
 use Rattle.flowpaths_cli.specs.declared.searching.Attempt.{Attempt}
 use Rattle.flowpaths_cli.specs.declared.searching.Attempt.TheVariants.{Found, Refuted, Spent}
 use Rattle.flowpaths_cli.specs.declared.counting.Ending.{Ending}
@@ -22,13 +22,14 @@ use Rattle.flowpaths_cli.specs.declared.counting.Ending.TheVariants.{Width, Refu
 use Rattle.flowpaths_cli.specs.declared.counting.Finding.{Finding}
 use Rattle.flowpaths_cli.specs.declared.counting.Finding.TheVariants.{Known, Crowded, Never, Open}
 
--- an answer to a decision, in report order, with no more weight on an edge than so many paths of the greatest weight of a text
+-- an answer to a decision, in report order, no path twice, with no more weight on an edge than so many paths of the greatest weight of a text
 pub record IsFoundFor (i : Instance) (d : Decision) (a : List (List ℕ × ℕ)) : Type 0 where
   pub answer : IsAnswer i.graph a
   pub covers : Covers i.rules a
   pub few : length a ≤ d.slots
   pub within : IsWithin d.limit (error i a)
   pub order : IsInReportOrder a
+  pub once : HasEachPathOnce a
   pub light : (e : ℕ) → weight_on a e ≤ d.slots * 1000000000000
 
 -- a decision is refuted, with at most so many tokens
@@ -51,10 +52,11 @@ AttemptsAs nodes i d (Found a) = IsFoundFor i d a
 AttemptsAs nodes i d (Refuted tree) = IsRefutedBy nodes i d tree
 AttemptsAs nodes i d (Spent trail) = IsSpentBy nodes i d trail
 
--- an answer that meets the model, in report order, with weights that fit a report
+-- an answer that meets the model, in report order, no path twice, with weights that fit a report
 pub record IsKnown (mode : Mode) (i : Instance) (a : List (List ℕ × ℕ)) : Type 0 where
   pub meets : Meets mode i a
   pub order : IsInReportOrder a
+  pub once : HasEachPathOnce a
   pub small : All (λ entry. entry.1 < 2 ^ 64) a
 
 -- no more paths than edges and runs that must be covered

@@ -1,5 +1,5 @@
 //! What a graph with ranges is answered.
-ghost use Rattle.std.specs.Prelude.{◌≡◌, ◌≤◌, ◌<◌, ◌==◌, ◌+◌, ℕ, List, length, slice_index, All, IfOk, IsTrue};
+ghost use Rattle.std.specs.Prelude.{◌≡◌, ◌≤◌, ◌<◌, ◌==◌, ◌+◌, ◌⊎◌, ℕ, List, length, slice_index, All, IfOk, IsTrue};
 ghost use Rattle.std.specs.List.{list_all};
 ghost use Rattle.decomposition.specs.declared.Mode.TheVariants.{Interval};
 ghost use Rattle.decomposition.specs.Answer.{IsAnswer, Covers, IsInReportOrder, weight_on};
@@ -17,6 +17,7 @@ use crate::counted::{solved_by, without_answer};
 use crate::counting::find_fewest;
 use crate::room::flow_with_room;
 use crate::settings::Settings;
+use crate::thin::thin_flow;
 use dag_net::{Answer, Ids, Net};
 use decomposition::Side;
 use flow_models::Problem;
@@ -60,7 +61,7 @@ pub fn solve_interval(
     }
 }
 
-/// A cut of the ranges, or a first answer where the booked paths fit.
+/// A cut of the ranges, or where the booked paths fit the shorter one of the first answers of two flows.
 fn first_within(alloc: Global, net: &Net, problem: &Problem) -> Result<Within, AllocError>
     requires valid { IsInstance Interval (instance net.now problem.now) }
     requires few_rules { length problem.now.rules ≤ 32 }
@@ -75,8 +76,10 @@ fn first_within(alloc: Global, net: &Net, problem: &Problem) -> Result<Within, A
     let booked = book(alloc, net, &guide, &problem.rules)?;
     match flow_with_room(alloc, net, &problem.ranges, flow, &booked)? {
         Some(flow) => {
-            let first = answer_over(alloc, net, flow.as_slice(), booked)?;
-            Ok(Within::First(Some(first)))
+            let other = answer_over(alloc, net, flow.as_slice(), copy_of(alloc, &booked)?)?;
+            let thin = thin_flow(alloc, net, &problem.ranges, flow, &booked)?;
+            let first = answer_over(alloc, net, thin.as_slice(), booked)?;
+            Ok(Within::First(Some(shorter(other, first))))
         }
         None => Ok(Within::First(None)),
     }
@@ -102,4 +105,35 @@ fn answer_over(alloc: Global, net: &Net, flow: &[u64], booked: Answer) -> Result
         Err(GreedyFault::Memory) => Err(AllocError),
         Err(_) => unreachable!(),
     }
+}
+
+/// The same weighted paths.
+fn copy_of(alloc: Global, answer: &Answer) -> Result<Answer, AllocError>
+    ensures { IfOk result (λ copy. copy ≡ answer.now) }
+{
+    let mut copy = Answer::new(alloc);
+    for i in 0..answer.len() {
+        copy.push(path_of(alloc, answer.path(i))?, answer.weight(i))?;
+    }
+    Ok(copy)
+}
+
+/// The same edges.
+fn path_of(alloc: Global, path: &Ids) -> Result<Ids, AllocError>
+    ensures { IfOk result (λ copy. copy ≡ path.now) }
+{
+    let mut copy = Ids::new(alloc);
+    for &e in path.as_slice() {
+        copy.push(e)?;
+    }
+    Ok(copy)
+}
+
+/// The answer with fewer paths, the first where both have as many.
+fn shorter(a: Answer, b: Answer) -> Answer
+    ensures either { (result ≡ a) ⊎ (result ≡ b) }
+    ensures first { length result ≤ length a }
+    ensures second { length result ≤ length b }
+{
+    if b.len() < a.len() { b } else { a }
 }

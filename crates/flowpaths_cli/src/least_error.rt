@@ -14,6 +14,7 @@ use crate::bounds::lower_bounds;
 use crate::counted::without_answer;
 use crate::searching::{Attempt, search_once};
 use crate::settings::Settings;
+use crate::widened::with_widest;
 use dag_net::{Answer, Net};
 use decomposition::Decision;
 use flow_models::{Problem, error_of};
@@ -21,8 +22,8 @@ use greedy_paths::book;
 use path_report::{Cert, Mark, Solved, Trail};
 use std::alloc::{AllocError, Global};
 
-/// The booked paths first, or any paths that cover, of which there may be k; then searches for less error, each for half
-/// of what lies between the bounds, until they meet or a search is spent.
+/// The booked paths and the widest of what they leave first, or any paths that cover, of which there may be k; then
+/// searches for less error, each for half of what lies between the bounds, until they meet or a search is spent.
 pub fn solve_least_error(
     alloc: Global,
     net: &Net,
@@ -56,7 +57,8 @@ pub fn solve_least_error(
     }
 }
 
-/// The booked paths, if there may be as many; else what a search for at most k paths with any error comes to.
+/// The booked paths and the widest of what they leave, if there may be as many as are booked; else what a search for at
+/// most k paths with any error comes to.
 fn first_attempt(
     alloc: Global,
     net: &Net,
@@ -76,7 +78,8 @@ fn first_attempt(
     let weights = lower_bounds(alloc, &problem.ranges)?;
     let booked = book(alloc, net, &weights, &problem.rules)?;
     if booked.len() <= k as usize {
-        return Ok(Attempt::Found(booked.tidy(alloc)?));
+        let paths = with_widest(alloc, net, &weights, booked, k)?;
+        return Ok(Attempt::Found(paths.tidy(alloc)?));
     }
     let decision = Decision {
         slots: k,

@@ -1,6 +1,7 @@
 //! The program `flowpaths`: words, the reading of an input, and a report for each of its blocks.
 #![tactic(auto)]
 
+mod accepted;
 mod bounds;
 mod call;
 mod command;
@@ -23,8 +24,11 @@ mod solving;
 mod stop;
 mod tally;
 mod telling;
+mod thin;
+mod widened;
 mod words;
 
+pub use accepted::right_reports_are_accepted;
 pub use call::flowpaths;
 pub use examples::{words_are_refused, words_are_taken};
 pub use settings::Settings;

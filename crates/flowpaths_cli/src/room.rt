@@ -1,10 +1,10 @@
-//! Room for booked paths: flows within ranges that carry their units.
+//! Flows within ranges that are at least given numbers, and room for booked paths.
 ghost use Rattle.std.specs.Prelude.{◌≡◌, ◌≤◌, ◌<◌, ◌==◌, ◌&&◌, nat_le, ◌^◌, ℕ, List, length, slice_index, IfOk, IsTrue, MatchOption};
 ghost use Rattle.std.specs.List.{list_all};
 ghost use Rattle.decomposition.specs.Answer.{IsAnswer, weight_on};
 ghost use Rattle.decomposition.specs.Graph.{Graph, edge_count};
 ghost use Rattle.flowpaths_cli.specs.Right.{NothingIsWithin};
-ghost use Rattle.flowpaths_cli.specs.Room.{HasRoomFor, HasNoRoomFor, AreRaised, IsPassed, IsFlowIn, ranged};
+ghost use Rattle.flowpaths_cli.specs.Room.{HasRoomFor, HasNoRoomFor, HasNoneAbove, IsFlowAbove, AreRaised, IsPassed, IsFlowIn, ranged};
 
 use dag_net::{Answer, Net, Numbers, Range, Ranges};
 use greedy_paths::units_on;
@@ -31,7 +31,22 @@ pub fn flow_with_room(
         return Ok(Some(flow));
     }
     let units = units_on(alloc, net, booked)?;
-    match raised_by(alloc, ranges, &units)? {
+    flow_above(alloc, net, ranges, &units)
+}
+
+/// A flow within the ranges that is at least these numbers on each edge, if there is one.
+pub fn flow_above(
+    alloc: Global,
+    net: &Net,
+    ranges: &Ranges,
+    least: &[u64],
+) -> Result<Option<Numbers>, AllocError>
+    requires one_each { length ranges.now ≡ edge_count net.now }
+    requires bounded { IsTrue (list_all (λ r. nat_le r.lo r.hi && nat_le r.hi 1000000000000) ranges.now) }
+    requires numbers { length least.now ≡ edge_count net.now }
+    ensures { IfOk result (λ found. MatchOption found (HasNoneAbove net.now ranges.now least.now) (IsFlowAbove net.now ranges.now least.now)) }
+{
+    match raised_by(alloc, ranges, least)? {
         Some(raised) => flow_within(alloc, net, raised.as_slice()),
         None => Ok(None),
     }
@@ -50,19 +65,19 @@ fn flow_within(alloc: Global, net: &Net, ranges: &[Range]) -> Result<Option<Numb
     }
 }
 
-/// The ranges with each lower bound raised to the units, or none where the units of an edge pass its upper bound.
-fn raised_by(alloc: Global, ranges: &Ranges, units: &[u64]) -> Result<Option<Ranges>, AllocError>
-    requires one_each { length units.now ≡ length ranges.now }
-    ensures { IfOk result (λ raised. MatchOption raised (IsPassed ranges.now units.now) (AreRaised ranges.now units.now)) }
+/// The ranges with each lower bound raised to these numbers, or none where the number of an edge passes its upper bound.
+fn raised_by(alloc: Global, ranges: &Ranges, least: &[u64]) -> Result<Option<Ranges>, AllocError>
+    requires one_each { length least.now ≡ length ranges.now }
+    ensures { IfOk result (λ raised. MatchOption raised (IsPassed ranges.now least.now) (AreRaised ranges.now least.now)) }
 {
     let mut raised = Ranges::new(alloc);
     for e in 0..ranges.len() {
         let range = ranges.get(e);
-        if units[e] > range.hi {
+        if least[e] > range.hi {
             return Ok(None);
         }
         raised.push(Range {
-            lo: range.lo.max(units[e]),
+            lo: range.lo.max(least[e]),
             hi: range.hi,
         })?;
     }

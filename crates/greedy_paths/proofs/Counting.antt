@@ -1,4 +1,4 @@
--- The units of booked paths, counted on each edge, and what they leave of a flow.
+-- A weight added on the edges of a path, the units of booked paths, and what they leave of a flow.
 use Rattle.std.proofs.Common.{◌≡◌, ◌≢◌, ◌==◌, ℕ, ◌+◌, ◌-◌, ◌<◌, ◌≤◌, ◌&&◌, nat_le, cond, true, List, [], ◌∷◌, ◌++◌, length, take, slice_index, slice_set, get_or-set_same, get_or-set_other, refl, sym, ap, ◌∙◌, ⊎_elim, arith, eqb-true, eq-eqb, ne_eqb}
 use Rattle.std.specs.Prelude.{AllPairs}
 use Rattle.std.specs.List.{list_all}
@@ -11,23 +11,23 @@ use Rattle.decomposition.proofs.Root.{all-place}
 use Rattle.greedy_paths.specs.Units.{AreUnits}
 use Rattle.greedy_paths.proofs.TakingOff.{not_before, or-none, has_edge-push}
 
-module _ (old : ℕ → ℕ) (path : List ℕ) (i : ℕ) (h : i < length path) where
+module _ (old : ℕ → ℕ) (path : List ℕ) (weight i : ℕ) (h : i < length path) where
   -- an edge at the place at hand has still what it had
-  pub units-here : (units : List ℕ) → AllPairs (λ d e. d ≢ e) path → ((e : ℕ) → slice_index units e ≡ old e + cond (has_edge (take i path) e) 1 0) → slice_index units (slice_index path i) ≡ old (slice_index path i)
-  units-here units once so_far = so_far (slice_index path i) ∙ rw (not_before path i h once) (omega arith)
+  pub sums-here : (sums : List ℕ) → AllPairs (λ d e. d ≢ e) path → ((e : ℕ) → slice_index sums e ≡ old e + cond (has_edge (take i path) e) weight 0) → slice_index sums (slice_index path i) ≡ old (slice_index path i)
+  sums-here sums once so_far = so_far (slice_index path i) ∙ rw (not_before path i h once) (omega arith)
 
   -- one more edge
-  pub units-more : (units : List ℕ) → AllPairs (λ d e. d ≢ e) path → slice_index path i < length units → ((e : ℕ) → slice_index units e ≡ old e + cond (has_edge (take i path) e) 1 0)
-      → (e : ℕ) → slice_index (slice_set units (slice_index path i) (slice_index units (slice_index path i) + 1)) e ≡ old e + cond (has_edge (take (i + 1) path) e) 1 0
-  units-more units once inside so_far e =
+  pub sums-more : (sums : List ℕ) → AllPairs (λ d e. d ≢ e) path → slice_index path i < length sums → ((e : ℕ) → slice_index sums e ≡ old e + cond (has_edge (take i path) e) weight 0)
+      → (e : ℕ) → slice_index (slice_set sums (slice_index path i) (slice_index sums (slice_index path i) + weight)) e ≡ old e + cond (has_edge (take (i + 1) path) e) weight 0
+  sums-more sums once inside so_far e =
       rw (take_more path i 0 h, has_edge-push (take i path) (slice_index path i) e)
       (⊎_elim
       (λ (same : e ≡ slice_index path i).
-      let now : slice_index (slice_set units (slice_index path i) (slice_index units (slice_index path i) + 1)) (slice_index path i) ≡ slice_index units (slice_index path i) + 1
-      = get_or-set_same units (slice_index path i) (slice_index units (slice_index path i) + 1) 0 inside in
-      rw (same, not_before path i h once, eq-eqb (slice_index path i) (slice_index path i) refl) (now ∙ ap (λ n. n + 1) (units-here units once so_far)))
+      let now : slice_index (slice_set sums (slice_index path i) (slice_index sums (slice_index path i) + weight)) (slice_index path i) ≡ slice_index sums (slice_index path i) + weight
+      = get_or-set_same sums (slice_index path i) (slice_index sums (slice_index path i) + weight) 0 inside in
+      rw (same, not_before path i h once, eq-eqb (slice_index path i) (slice_index path i) refl) (now ∙ ap (λ n. n + weight) (sums-here sums once so_far)))
       (λ (other : e ≢ slice_index path i).
-      rw (ne_eqb e (slice_index path i) other, or-none (has_edge (take i path) e)) (get_or-set_other units (slice_index path i) e (slice_index units (slice_index path i) + 1) 0 other ∙ so_far e))
+      rw (ne_eqb e (slice_index path i) other, or-none (has_edge (take i path) e)) (get_or-set_other sums (slice_index path i) e (slice_index sums (slice_index path i) + weight) 0 other ∙ so_far e))
       (cases_eq e (slice_index path i)))
 
 module _ (g : Graph) (booked : List (List ℕ × ℕ)) where

@@ -3,7 +3,8 @@
 
 pub use booking::book;
 pub use greedy::{GreedyFault, decompose, decompose_over, decompose_with};
-pub use units::units_on;
+pub use units::{add_along, units_on};
+pub use widest::widest_path;
 
 mod booking;
 mod contained;

@@ -12,15 +12,15 @@ use crate::greedy::GreedyFault;
 use dag_net::{Answer, Net};
 use std::alloc::{AllocError, Global};
 
-/// Counts one more unit on each edge of a path.
-fn add_units(units: &mut [u64], path: &[u32])
-    requires inside { All (λ e. e < length units.old) path.now }
+/// Adds a weight on each edge of a path.
+pub fn add_along(sums: &mut [u64], path: &[u32], weight: u64)
+    requires inside { All (λ e. e < length sums.old) path.now }
     requires once { AllPairs (λ d e. d ≢ e) path.now }
-    requires room { (e : ℕ) → slice_index units.old e < 2 ^ 32 }
-    ensures { (e : ℕ) → slice_index units.new e ≡ slice_index units.old e + cond (has_edge path.now e) 1 0 }
+    requires room { All (λ e. slice_index sums.old e + weight < 2 ^ 64) path.now }
+    ensures { (e : ℕ) → slice_index sums.new e ≡ slice_index sums.old e + cond (has_edge path.now e) weight 0 }
 {
     for &e in path {
-        units[e as usize] += 1;
+        sums[e as usize] += weight;
     }
 }
 
@@ -33,7 +33,7 @@ pub fn units_on(alloc: Global, net: &Net, booked: &Answer) -> Result<Vec<u64>, A
 {
     let mut units = vec![in alloc; 0; net.edges() as usize]?;
     for i in 0..booked.len() {
-        add_units(&mut units, booked.path(i).as_slice());
+        add_along(&mut units, booked.path(i).as_slice(), 1);
     }
     Ok(units)
 }

@@ -1,0 +1,105 @@
+-- Paths that are added to the booked ones only lower the error.
+use Rattle.std.proofs.Common.{◌≡◌, ℕ, ◌+◌, ◌*◌, ◌≤◌, ◌<◌, ◌&&◌, nat_le, nat_lt, cond, max, true, List, [], ◌∷◌, ◌++◌, length, slice_index, slice_index_or, sym, ap, subst, ◌∙◌, append_assoc, refl, inl, inr, arith, le-leb, ltb-true}
+use Rattle.std.specs.Prelude.{All}
+use Rattle.std.proofs.lemmas.Bool.{and_from, cases_Bool}
+use Rattle.std.proofs.lemmas.List.{append-nil}
+use Rattle.std.proofs.lemmas.List.Sums.{sum_by-le}
+use Rattle.decomposition.specs.declared.Mode.TheVariants.{Abs}
+use Rattle.decomposition.specs.Answer.{Covers, HaveSamePaths, IsAnswer, IsInReportOrder, IsMerged, total_weight, weight_on}
+use Rattle.decomposition.specs.FirstAnswer.{IsWidest, path_width}
+use Rattle.decomposition.specs.Graph.{Graph, edge_count, has_edge, is_path}
+use Rattle.decomposition.specs.Instance.{Instance, IsInstance, distance, error, range}
+use Rattle.decomposition.proofs.FewPaths.{Covers-append, all-append, weight_on-append}
+use Rattle.decomposition.proofs.FirstAnswers.{merged_least}
+use Rattle.decomposition.proofs.Merging.{Covers-same_paths, IsAnswer-same_paths}
+use Rattle.decomposition.proofs.Root.{all-cons, all-place}
+use Rattle.decomposition.proofs.Sums.{sum_below-le}
+use Rattle.greedy_paths.specs.Booking.{AreBooked}
+use Rattle.greedy_paths.specs.Units.{AreUnits}
+use Rattle.greedy_paths.proofs.Decomposing.{path-enough, path-inside, path_width-le}
+use Rattle.flowpaths_cli.specs.Booking.{upper_bound}
+use Rattle.flowpaths_cli.specs.Room.{IsLeftOf}
+use Rattle.flowpaths_cli.specs.Searched.{IsFoundFor, any_error}
+use Rattle.flowpaths_cli.specs.Widened.{IsWidened}
+use Rattle.flowpaths_cli.proofs.Attempts.{weight_on-le}
+use Rattle.flowpaths_cli.proofs.Beginnings.{both_same}
+use Rattle.flowpaths_cli.proofs.Bounded.{bounds, entries_small}
+use Rattle.flowpaths_cli.proofs.Halving.{booked_units}
+use Rattle.flowpaths_cli.proofs.PathsOnce.{paths_once}
+
+-- the paths so far, and what they put on each edge
+pub record IsWidening (g : Graph) (weights : List ℕ) (booked a : List (List ℕ × ℕ)) (sums : List ℕ) : Type 0 where
+  pub widened : IsWidened g (slice_index weights) booked a
+  pub units : AreUnits g a sums
+
+pub IsWidening-start : (g : Graph) (weights : List ℕ) (booked : List (List ℕ × ℕ)) (units : List ℕ) → IsAnswer g booked → AreUnits g booked units → IsWidening g weights booked booked units
+IsWidening-start g weights booked units answer counts = record {
+  widened = record { others = []; begins = sym (append-nil booked); answer = answer; most = λ e inside. omega arith };
+  units = counts;
+}
+
+module _ (g : Graph) (weights : List ℕ) (a : List (List ℕ × ℕ)) (sums left path : List ℕ) (width : ℕ) (one_each : length weights ≡ edge_count g) (are : IsLeftOf (length weights) weights sums left)
+    (widest : IsWidest g (slice_index left) path) (is : width ≡ path_width (slice_index left) path) where
+  -- the widest path of what is left fits under the weights
+  pub width-fits_under : All (λ e. slice_index sums e + width ≤ slice_index weights e) path
+  width-fits_under k d h =
+      let e = slice_index_or path k d in
+      omega (arith, path-enough g path (slice_index left) width is k d h, are.each e (omega (arith, path-inside g path widest.path k d h, one_each)), is, widest.positive)
+
+  -- one path more
+  module _ (booked : List (List ℕ × ℕ)) (new : List ℕ) (so_far : IsWidening g weights booked a sums) (added : (e : ℕ) → slice_index new e ≡ slice_index sums e + cond (has_edge path e) width 0) where
+    more-fits : (e : ℕ) → e < edge_count g → (weight_on (a ++ (path, width) ∷ []) e ≤ max (slice_index weights e) (weight_on booked e)) × (slice_index new e ≡ weight_on (a ++ (path, width) ∷ []) e)
+    more-fits e inside = elim (cases_Bool (has_edge path e)) [
+      | inl hit ↦
+          let on : weight_on (a ++ (path, width) ∷ []) e ≡ weight_on a e + (width + 0) = subst (λ b. weight_on (a ++ (path, width) ∷ []) e ≡ weight_on a e + (cond b width 0 + 0)) hit (weight_on-append a ((path, width) ∷ []) e) in
+          let sum : slice_index new e ≡ slice_index sums e + width = subst (λ b. slice_index new e ≡ slice_index sums e + cond b width 0) hit (added e) in
+          let least = path_width-le (slice_index left) path e hit in
+          let rest = are.each e (omega (arith, inside, one_each)) in
+          (omega (arith, on, is, least, rest, widest.positive, so_far.units.each e inside), omega (arith, on, sum, so_far.units.each e inside))
+      | inr free ↦
+          let on : weight_on (a ++ (path, width) ∷ []) e ≡ weight_on a e + (0 + 0) = subst (λ b. weight_on (a ++ (path, width) ∷ []) e ≡ weight_on a e + (cond b width 0 + 0)) free (weight_on-append a ((path, width) ∷ []) e) in
+          let sum : slice_index new e ≡ slice_index sums e + 0 = subst (λ b. slice_index new e ≡ slice_index sums e + cond b width 0) free (added e) in
+          (omega (arith, on, so_far.widened.most e inside), omega (arith, on, sum, so_far.units.each e inside))
+    ]
+
+    pub IsWidening-more : length new ≡ length sums → IsWidening g weights booked (a ++ (path, width) ∷ []) new
+    IsWidening-more count =
+        let good : (is_path g path && nat_le 1 width) ≡ true = and_from (is_path g path) (nat_le 1 width) widest.path (le-leb 1 width (omega (arith, is, widest.positive))) in
+        record {
+          widened = record {
+            others = so_far.widened.others ++ (path, width) ∷ [];
+            begins = ap (λ xs. xs ++ (path, width) ∷ []) so_far.widened.begins ∙ append_assoc booked so_far.widened.others ((path, width) ∷ []);
+            answer = all-append (λ (entry : List ℕ × ℕ). is_path g entry.0 && nat_le 1 entry.1) a ((path, width) ∷ []) so_far.widened.answer (all-cons (λ (entry : List ℕ × ℕ). is_path g entry.0 && nat_le 1 entry.1) (path, width) [] good refl);
+            most = λ e inside. (more-fits e inside).0;
+          };
+          units = record { count = count ∙ so_far.units.count; each = λ e inside. (more-fits e inside).1 };
+        }
+
+module _ (k : ℕ) (i : Instance) (f : ℕ → ℕ) (booked a : List (List ℕ × ℕ)) (valid : IsInstance (Abs k) i) (same : (e : ℕ) → f e ≡ upper_bound i e) (widened : IsWidened i.graph f booked a) where
+  -- the error is no greater than that of the booked paths
+  pub widened_nearer : error i a ≤ error i booked
+  widened_nearer =
+      sum_below-le (λ e. distance (range i e) (weight_on a e)) (λ e. distance (range i e) (weight_on booked e)) (edge_count i.graph)
+      (λ e inside. omega (arith, both_same i.ranges valid.fits e, same e, widened.most e inside, ap (λ xs. weight_on xs e) widened.begins, weight_on-append booked widened.others e))
+
+  module _ (are : AreBooked i.graph f i.rules booked) (few : length a ≤ k) (fits : length booked ≤ k) (slots : k ≤ 64) where
+    -- their weights are together at most so many times the greatest weight of a text
+    pub widened_total : total_weight a ≤ k * 1000000000000
+    widened_total =
+        let each = entries_small i.graph 1000000000000 a widened.answer
+        (λ e inside. omega (arith, widened.most e inside, same e, (bounds (Abs k) i valid e (omega (arith, inside, valid.ranged))).1, booked_units i f booked are e, fits, slots)) in
+        omega (arith, sum_by-le (λ (entry : List ℕ × ℕ). entry.1) 1000000000000 a each, few)
+
+    -- with equal ones made one, they answer the decision that asks for at most k paths
+    pub widened_found : (new : List (List ℕ × ℕ)) → Covers i.rules booked → HaveSamePaths a new → IsMerged a new → ((e : ℕ) → weight_on new e ≡ weight_on a e) → IsInReportOrder new → IsFoundFor i (any_error k) new
+    widened_found new covers paths merged kept order =
+        let short : length new ≤ length a = merged_least new a merged.once merged.positive merged.same in
+        record {
+          answer = IsAnswer-same_paths i.graph a new paths (λ n e there. ltb-true 0 _ (all-place (λ (entry : List ℕ × ℕ). nat_lt 0 entry.1) new e n merged.positive there)) widened.answer;
+          covers = Covers-same_paths i.rules a new paths (subst (Covers i.rules) (sym widened.begins) (Covers-append i.rules booked widened.others covers));
+          few = omega (arith, short, few);
+          within = tt;
+          order = order;
+          once = paths_once new merged.once;
+          light = λ e. omega (arith, kept e, weight_on-le a e, widened_total);
+        }

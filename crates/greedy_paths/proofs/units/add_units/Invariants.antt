@@ -1,6 +1,0 @@
-use Rattle.std.proofs.Common.{◌≡◌, ℕ, ◌+◌, cond, take, slice_index}
-use Rattle.decomposition.specs.Graph.{has_edge}
-use Rattle.greedy_paths.proofs.units.add_units.Given as goal
-
-abbrev pub invariant-loop-e : goal.invariant-loop-e
-invariant-loop-e l = (k : ℕ) → slice_index l.units k ≡ slice_index l.initial.units k + cond (has_edge (take l.e-index l.path) k) 1 0

@@ -1,0 +1,4 @@
+pub mod EndedLines
+pub mod EndLines
+pub mod Cutting
+pub mod Models
