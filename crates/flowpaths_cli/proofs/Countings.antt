@@ -1,5 +1,6 @@
 -- A run over a text between two parts of it, and how it goes on.
-use Rattle.std.proofs.Common.{◌≡◌, ◌≤◌, ◌+◌, ◌*◌, ℕ, false, List, [], ◌++◌, length, take, drop, Option, None, refl, sym, ap, subst, ◌∙◌, arith, length-append}
+use Rattle.std.proofs.Common.{◌≡◌, ◌≤◌, ◌+◌, ◌*◌, ◌^◌, ◌<◌, ℕ, false, List, [], ◌++◌, length, take, drop, Option, None, refl, sym, ap, subst, ◌∙◌, arith, length-append, append-nil}
+use Rattle.std.proofs.lemmas.List.{take-append-drop}
 use Rattle.graph_text.specs.Blocks.{TextBlock, blocks, complete}
 use Rattle.graph_text.specs.Reader.{Feeds, Ends, IsNew, IsTaken, mode_of, waiting_of, has_failed, has_finished}
 use Rattle.graph_text.specs.declared.reader.BlockReader.{BlockReader}
@@ -69,3 +70,19 @@ few-complete bytes more =
     let grown = complete-grows bytes more in
     let all = blocks-begin (bytes ++ more) in
     omega (arith, ap length grown.1, ap length all.1, length-append (complete bytes) grown.0, length-append (complete (bytes ++ more)) all.0)
+
+few-below : (some all : ℕ) → some ≤ all → all < 2 ^ 32 → some < 2 ^ 32
+few-below some all within few = omega (arith, within, few)
+
+-- so a part of a text with few blocks has few of them
+pub few-in-part : (text : List ℕ) (n : ℕ) → length (blocks text) < 2 ^ 32 → length (complete (take n text)) < 2 ^ 32
+few-in-part text n few =
+    few-below (length (complete (take n text))) (length (blocks text))
+    (subst (λ bytes. length (complete (take n text)) ≤ length (blocks bytes)) (take-append-drop n text) (few-complete (take n text) (drop n text)))
+    few
+
+pub few-whole : (text : List ℕ) → length (blocks text) < 2 ^ 32 → length (complete text) < 2 ^ 32
+few-whole text few =
+    few-below (length (complete text)) (length (blocks text))
+    (subst (λ bytes. length (complete text) ≤ length (blocks bytes)) (append-nil text) (few-complete text []))
+    few

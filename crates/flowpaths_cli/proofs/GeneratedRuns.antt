@@ -53,7 +53,7 @@ solved-from s seed t exact is =
     record { reports = made.reports; counted = made.counted; forty = made.forty }
 
 few-of : (text all : List ℕ) → text ≡ all → length (blocks all) ≡ 40 → length (blocks text) < 2 ^ 32
-few-of text all same many = omega (arith, ap (λ bytes. length (blocks bytes)) same, many)
+few-of text all same many = subst (λ bytes. length (blocks bytes) < 2 ^ 32) (sym same) (subst (λ n. n < 2 ^ 32) (sym many) (omega arith))
 
 pub few-blocks : (text : List ℕ) (seed : ℕ) → text ≡ demo_text seed → length (blocks text) < 2 ^ 32
 few-blocks text seed same = few-of text (demo_text seed) same (blocks_are_accepted seed).0

@@ -81,6 +81,29 @@ fn tally_end(
     tally_waiting(alloc, settings, reader, tally)
 }
 
+/// Gives a text to the reader, and counts what is said of each block that it completes.
+fn tally_pieces(
+    alloc: Global,
+    settings: &Settings,
+    reader: &mut BlockReader,
+    text: &[u8],
+    tally: &mut Tally,
+) -> Result<(), AllocError>
+    requires built { AreBuilt settings.now }
+    requires exact { settings.now.mode ≡ Exact }
+    requires counting { Counting settings.now reader.old [] tally.old }
+    requires short { length text.now < 2 ^ 62 }
+    requires few { length (blocks text.now) < 2 ^ 32 }
+    ensures { OnOk result (Counting settings.now reader.new text.now tally.new) }
+{
+    let mut done = 0;
+    while done < text.len() {
+        done += reader.feed(&text[done..])?;
+        tally_waiting(alloc, settings, reader, tally)?;
+    }
+    Ok(())
+}
+
 /// Solves the blocks of a text, and counts what is said of them.
 fn tally_text(alloc: Global, settings: &Settings, text: &[u8]) -> Result<Tally, AllocError>
     requires built { AreBuilt settings.now }
@@ -91,11 +114,7 @@ fn tally_text(alloc: Global, settings: &Settings, text: &[u8]) -> Result<Tally, 
 {
     let mut reader = BlockReader::new(alloc, settings.mode)?;
     let mut tally = Tally::new();
-    let mut done = 0;
-    while done < text.len() {
-        done += reader.feed(&text[done..])?;
-        tally_waiting(alloc, settings, &mut reader, &mut tally)?;
-    }
+    tally_pieces(alloc, settings, &mut reader, text, &mut tally)?;
     tally_end(alloc, settings, &mut reader, &mut tally)?;
     Ok(tally)
 }
