@@ -58,10 +58,8 @@ few-of text all same many = subst (λ bytes. length (blocks bytes) < 2 ^ 32) (sy
 pub few-blocks : (text : List ℕ) (seed : ℕ) → text ≡ demo_text seed → length (blocks text) < 2 ^ 32
 few-blocks text seed same = few-of text (demo_text seed) same (blocks_are_accepted seed).0
 
-pub solved-if_ok : {E : Type 0} (s : Settings) (seed : ℕ) (text : List ℕ) (r : Result Tally E) → s.mode ≡ Exact → text ≡ demo_text seed →
-    IfOk r (IsTallied s (blocks text)) → IfOk r (IsSolved s seed)
-solved-if_ok s seed text (Ok t) exact same is = solved-from s seed t exact (subst (λ bytes. IsTallied s (blocks bytes) t) same is)
-solved-if_ok s seed text (Err e) exact same is = tt
+pub solved-text : (s : Settings) (seed : ℕ) (text : List ℕ) (t : Tally) → s.mode ≡ Exact → text ≡ demo_text seed → IsTallied s (blocks text) t → IsSolved s seed t
+solved-text s seed text t exact same is = solved-from s seed t exact (subst (λ bytes. IsTallied s (blocks bytes) t) same is)
 
 module _ (s : Settings) (seed : ℕ) where
   -- nothing was written

@@ -10,6 +10,7 @@ ghost use Rattle.flowpaths_cli.specs.Numbers.{most_seed};
 ghost use Rattle.flowpaths_cli.specs.Reporting.{IsHandedFor, AreHandedFor};
 ghost use Rattle.flowpaths_cli.specs.Right.{AreBuilt};
 ghost use Rattle.flowpaths_cli.specs.Run.{WhereWritten};
+ghost use Rattle.flowpaths_cli.specs.Tally.{tally_of};
 
 use crate::reporting::answer;
 use crate::settings::Settings;
@@ -105,18 +106,22 @@ fn tally_pieces(
 }
 
 /// Solves the blocks of a text, and counts what is said of them.
-fn tally_text(alloc: Global, settings: &Settings, text: &[u8]) -> Result<Tally, AllocError>
+fn tally_text(
+    alloc: Global,
+    settings: &Settings,
+    text: &[u8],
+    tally: &mut Tally,
+) -> Result<(), AllocError>
     requires built { AreBuilt settings.now }
     requires exact { settings.now.mode ≡ Exact }
     requires short { length text.now < 2 ^ 62 }
     requires few { length (blocks text.now) < 2 ^ 32 }
-    ensures { IfOk result (IsTallied settings.now (blocks text.now)) }
+    requires none { tally.old ≡ tally_of [] }
+    ensures { OnOk result (IsTallied settings.now (blocks text.now) tally.new) }
 {
     let mut reader = BlockReader::new(alloc, settings.mode)?;
-    let mut tally = Tally::new();
-    tally_pieces(alloc, settings, &mut reader, text, &mut tally)?;
-    tally_end(alloc, settings, &mut reader, &mut tally)?;
-    Ok(tally)
+    tally_pieces(alloc, settings, &mut reader, text, tally)?;
+    tally_end(alloc, settings, &mut reader, tally)
 }
 
 /// Solves the graphs of the text that a seed gives, and counts what is said of them.
@@ -127,7 +132,9 @@ fn solve_generated(alloc: Global, settings: &Settings, seed: u64) -> Result<Tall
     ensures { IfOk result (IsSolved settings.now seed) }
 {
     let text = demo(alloc, seed as u32)?;
-    tally_text(alloc, settings, text.as_slice())
+    let mut tally = Tally::new();
+    tally_text(alloc, settings, text.as_slice(), &mut tally)?;
+    Ok(tally)
 }
 
 /// Solves the graphs of the text that a seed gives, and writes four lines on them.

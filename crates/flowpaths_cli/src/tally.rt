@@ -8,7 +8,7 @@ use path_report::{Body, Mark};
 use std::alloc::{AllocError, Global};
 
 /// How many graphs there are, how many of them have each mark, and how many paths are known in all.
-#[derive(Drop)]
+#[derive(Clone, Copy)]
 pub struct Tally {
     pub blocks: u64,
     pub optimal: u64,

@@ -1,5 +1,5 @@
 use Rattle.std.proofs.Common.{◌∙◌}
-use Rattle.flowpaths_cli.proofs.GeneratedRuns.{few-blocks, solved-if_ok}
+use Rattle.flowpaths_cli.proofs.GeneratedRuns.{few-blocks, solved-text}
 use Rattle.flowpaths_cli.proofs.generated.solve_generated.Goals as goal
 
 pub tally_text-requires-clause-few : goal.tally_text-requires-clause-few
@@ -7,4 +7,4 @@ tally_text-requires-clause-few c = few-blocks c.as_slice.result.now c.args.seed 
 
 pub returns : goal.returns
 returns c =
-    solved-if_ok c.args.settings.now c.args.seed c.as_slice.result.now c.tally_text.result c.requires.exact (c.as_slice.ensures ∙ c.in_ok-text.ensures.text) c.tally_text.ensures
+    solved-text c.args.settings.now c.args.seed c.as_slice.result.now _ c.requires.exact (c.as_slice.ensures ∙ c.in_ok-text.ensures.text) c.in_ok-tally_text.ensures
