@@ -105,6 +105,25 @@ fn tally_pieces(
     Ok(())
 }
 
+/// Gives a text to a new reader, ends it, and counts what is said of its blocks.
+fn tally_read(
+    alloc: Global,
+    settings: &Settings,
+    reader: &mut BlockReader,
+    text: &[u8],
+    tally: &mut Tally,
+) -> Result<(), AllocError>
+    requires built { AreBuilt settings.now }
+    requires exact { settings.now.mode ≡ Exact }
+    requires counting { Counting settings.now reader.old [] tally.old }
+    requires short { length text.now < 2 ^ 62 }
+    requires few { length (blocks text.now) < 2 ^ 32 }
+    ensures { OnOk result (IsTallied settings.now (blocks text.now) tally.new) }
+{
+    tally_pieces(alloc, settings, reader, text, tally)?;
+    tally_end(alloc, settings, reader, tally)
+}
+
 /// Solves the blocks of a text, and counts what is said of them.
 fn tally_text(
     alloc: Global,
@@ -120,8 +139,7 @@ fn tally_text(
     ensures { OnOk result (IsTallied settings.now (blocks text.now) tally.new) }
 {
     let mut reader = BlockReader::new(alloc, settings.mode)?;
-    tally_pieces(alloc, settings, &mut reader, text, tally)?;
-    tally_end(alloc, settings, &mut reader, tally)
+    tally_read(alloc, settings, &mut reader, text, tally)
 }
 
 /// Solves the graphs of the text that a seed gives, and counts what is said of them.
