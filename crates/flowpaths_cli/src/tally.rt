@@ -57,7 +57,12 @@ impl Tally {
         let optimal = self.optimal;
         let bounds = self.bounds;
         let paths = self.paths;
-        format!(in alloc; "blocks {blocks}\noptimal {optimal}\nbounds {bounds}\npaths {paths}\n")
+        let mut text = String::new(alloc);
+        write!(
+            text,
+            "blocks {blocks}\noptimal {optimal}\nbounds {bounds}\npaths {paths}\n"
+        )?;
+        Ok(text)
     }
 
     /// The status of a run that ended with these counts.
