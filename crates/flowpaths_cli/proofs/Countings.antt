@@ -17,15 +17,17 @@ use Rattle.flowpaths_cli.proofs.Underways.{Grows, grows-feed, grows-end}
 -- the run as one that tells no output
 pub as-underway : (s : Settings) (reader : BlockReader) (bytes : List ℕ) (t : Tally) → Counting s reader bytes t → (status : Status) × Underway s reader bytes status None None
 as-underway s reader bytes t counting =
-    let made = counting.tallied in
-    (status_of made.reports, record {
-      stands = counting.stands;
-      none_waits = counting.none_waits;
-      works = counting.works;
-      goes_on = counting.goes_on;
-      mode_is = counting.mode_is;
-      wrote = (made.text, (made.reports, made.right, refl), refl);
-    })
+    let made = counting.tallied in (
+      status_of made.reports,
+      record {
+        stands = counting.stands;
+        none_waits = counting.none_waits;
+        works = counting.works;
+        goes_on = counting.goes_on;
+        mode_is = counting.mode_is;
+        wrote = (made.text, (made.reports, made.right, refl), refl);
+      },
+    )
 
 -- nothing was taken yet
 pub counting-nothing : (s : Settings) (reader : BlockReader) (t : Tally) → IsNew s.mode reader → t ≡ tally_of [] → Counting s reader [] t

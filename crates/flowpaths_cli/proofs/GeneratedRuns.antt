@@ -65,24 +65,30 @@ module _ (s : Settings) (seed : ℕ) where
   -- nothing was written
   pub writes-nothing : (told : Option (List ℕ)) → WhereWritten told told (WritesCounts s seed Memory)
   writes-nothing None = tt
-  writes-nothing (Some bytes) =
-      ([], ap Some (sym (append-nil bytes)), record {
-        clean = λ e. absurd (let f : Memory ≡ Clean = e in cc);
-        partial = λ e. absurd (let f : Memory ≡ Partial = e in cc);
-        fault = λ e. absurd (let f : Memory ≡ Fault = e in cc);
-        memory = λ e. refl;
-      })
+  writes-nothing (Some bytes) = (
+    [],
+    ap Some (sym (append-nil bytes)),
+    record {
+      clean = λ e. absurd (let f : Memory ≡ Clean = e in cc);
+      partial = λ e. absurd (let f : Memory ≡ Partial = e in cc);
+      fault = λ e. absurd (let f : Memory ≡ Fault = e in cc);
+      memory = λ e. refl;
+    },
+  )
 
   -- a beginning of the lines was written
   pub writes-beginning : (t : Tally) (lines : List ℕ) (told now : Option (List ℕ)) → IsSolved s seed t → lines ≡ lines_of t → AddsPrefix told now lines → WhereWritten told now (WritesCounts s seed Fault)
   writes-beginning t lines None now solved are (n, within, adds) = tt
-  writes-beginning t lines (Some bytes) now solved are (n, within, adds) =
-      (take n lines, adds, record {
-        clean = λ e. absurd (let f : Fault ≡ Clean = e in cc);
-        partial = λ e. absurd (let f : Fault ≡ Partial = e in cc);
-        fault = λ e. (t, solved, drop n lines, take-append-drop n lines ∙ are);
-        memory = λ e. absurd (let f : Fault ≡ Memory = e in cc);
-      })
+  writes-beginning t lines (Some bytes) now solved are (n, within, adds) = (
+    take n lines,
+    adds,
+    record {
+      clean = λ e. absurd (let f : Fault ≡ Clean = e in cc);
+      partial = λ e. absurd (let f : Fault ≡ Partial = e in cc);
+      fault = λ e. (t, solved, drop n lines, take-append-drop n lines ∙ are);
+      memory = λ e. absurd (let f : Fault ≡ Memory = e in cc);
+    },
+  )
 
   -- all lines were written
   module _ (t : Tally) (lines : List ℕ) (solved : IsSolved s seed t) (are : lines ≡ lines_of t) where

@@ -99,6 +99,7 @@ module _ (s : Settings) (exact : s.mode ≡ Exact) where
     none : (numbers : List ℕ) → AreFewest [] numbers → sum numbers ≤ 0
     none [] h = omega arith
     none (n ∷ numbers) h = absurd h
+
     none-back : (numbers : List ℕ) → AreFewest [] numbers → 0 ≤ sum numbers
     none-back numbers h = omega arith
   all-decided [] (report ∷ reports) text plain right = absurd right
@@ -122,6 +123,7 @@ module _ (s : Settings) (exact : s.mode ≡ Exact) where
           (numbers : List ℕ) → AreFewest (block ∷ shown) numbers → sum numbers ≤ sum_by (λ (r : Report). paths_of r.body) (report ∷ reports)
       least here rest paths [] h = absurd h
       least here rest paths (n ∷ numbers) h = omega (arith, here.least n h.0, rest.least numbers h.1, paths, sum_by-cons (λ (k : ℕ). k) n numbers)
+
       best_of : IsDecided (read Exact block) report.body → AreDecided shown reports → sum_by (λ (r : Report). paths_of r.body) (report ∷ reports) ≡ paths_of report.body + sum_by (λ (r : Report). paths_of r.body) reports →
           is_open report.body ≡ false → count_by (λ r. is_open r.body) reports ≡ 0 →
           (numbers : List ℕ) → AreFewest (block ∷ shown) numbers → sum_by (λ (r : Report). paths_of r.body) (report ∷ reports) ≤ sum numbers

@@ -35,10 +35,11 @@ tally_waiting-requires-clause-handed c =
 pub tally_waiting-requires-clause-tallied : goal.tally_waiting-requires-clause-tallied
 tally_waiting-requires-clause-tallied c =
     let text = c.args.text.now in
-    let done = c.loop-done.done in
-    (complete (take done text),
-    few-in-part text done c.requires.few,
-    c.loop-done.invariant.1.tallied)
+    let done = c.loop-done.done in (
+      complete (take done text),
+      few-in-part text done c.requires.few,
+      c.loop-done.invariant.1.tallied,
+    )
 
 pub loop-done-smaller : goal.loop-done-smaller
 loop-done-smaller c =
@@ -52,10 +53,10 @@ loop-done-preserved c =
     let counting = c.loop-done.invariant.1 in (
       omega (arith, c.in_ok-done.ensures.count, c.loop-done.invariant.0, ap length (take_rest c.args.text.now c.loop-done.done), length-drop c.loop-done.done c.args.text.now),
       subst (λ bytes. Counting c.args.settings.now c.tally_waiting.new.reader bytes c.tally_waiting.new.tally)
-      (parts-more [] c.args.text.now c.loop-done.done c.in_ok-done.field-0)
-      (counting-more c.args.settings.now c.loop-done.reader c.feed.new.self c.tally_waiting.new.reader _ _ _ _ _ counting
-      (c.in_ok-done.ensures.feeds counting.none_waits _ counting.stands) c.in_ok-done.ensures.works c.in_ok-done.ensures.finished c.in_ok-done.ensures.mode
-      c.in_ok-tally_waiting.ensures.reader c.in_ok-tally_waiting.ensures.done),
+          (parts-more [] c.args.text.now c.loop-done.done c.in_ok-done.field-0)
+          (counting-more c.args.settings.now c.loop-done.reader c.feed.new.self c.tally_waiting.new.reader _ _ _ _ _ counting
+          (c.in_ok-done.ensures.feeds counting.none_waits _ counting.stands) c.in_ok-done.ensures.works c.in_ok-done.ensures.finished c.in_ok-done.ensures.mode
+          c.in_ok-tally_waiting.ensures.reader c.in_ok-tally_waiting.ensures.done),
     )
 
 pub returns : goal.returns
