@@ -23,6 +23,8 @@ mod faults;
 #[cfg(test)]
 mod fronts;
 #[cfg(test)]
+mod generated;
+#[cfg(test)]
 mod models;
 #[cfg(test)]
 mod problems;

@@ -48,6 +48,14 @@ const MODELS: [(&[&str], Mode); 5] = [
     (&["--paths=0000000002", "--model=abs"], Mode::Abs { k: 2 }),
 ];
 
+/// Words that are taken, and the seed that they give.
+const SEEDS: [(&[&str], u64); 4] = [
+    (&["--demo", "0"], 0),
+    (&["--demo=2147483647"], 2_147_483_647),
+    (&["-", "--demo", "0000000007"], 7),
+    (&["--model=exact", "--nodes", "7", "--demo=1"], 1),
+];
+
 /// Words that are refused.
 const REFUSED: [&[&str]; 56] = [
     &["--nodes"],
@@ -88,7 +96,7 @@ const REFUSED: [&[&str]; 56] = [
     &["--model=exact", "--paths=2"],
     &["--model=interval", "--paths=2"],
     &["--demo"],
-    &["--demo", "1"],
+    &["--demo="],
     &["--demo", "2147483648"],
     &["--demo", "1", "x.graph"],
     &["--demo", "1", "--safe"],
@@ -130,6 +138,16 @@ fn models_are_taken(rt: HostRuntime) -> Result<(), Fail> {
     for (words, mode) in MODELS {
         let settings = Settings::of_words(alloc, &owned(alloc, words)?)?;
         assert_eq!(rt; settings.mode, mode, "{words:?}");
+    }
+    Ok(())
+}
+
+#[test]
+fn seeds_are_taken(rt: HostRuntime) -> Result<(), Fail> {
+    let alloc = rt.alloc();
+    for (words, seed) in SEEDS {
+        let settings = Settings::of_words(alloc, &owned(alloc, words)?)?;
+        assert_eq!(rt; settings.demo, Some(seed), "{words:?}");
     }
     Ok(())
 }

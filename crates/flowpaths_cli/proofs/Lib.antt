@@ -26,4 +26,8 @@ pub mod Parsed
 pub mod OnWords
 pub mod WordSettings
 pub mod SafeLists
+pub mod Tallies
+pub mod Countings
+pub mod SolvedGraphs
+pub mod GeneratedRuns
 pub mod Acceptance

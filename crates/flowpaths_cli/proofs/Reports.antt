@@ -40,7 +40,7 @@ report_is s text block body labels is_handed right are regular =
     } in
     subst P is_handed here right are regular
 
-reports-more : (s : Settings) (blocks : List TextBlock) (reports : List Report) (text : List ℕ) (block : TextBlock) (report : Report) (more : List ℕ) →
+pub reports-more : (s : Settings) (blocks : List TextBlock) (reports : List Report) (text : List ℕ) (block : TextBlock) (report : Report) (more : List ℕ) →
     AreReports s blocks reports text → IsReportOf s block report more → AreReports s (blocks ++ block ∷ []) (reports ++ report ∷ []) (text ++ more)
 reports-more s [] [] text block report more h one =
     (more, [], ap (λ t. t ++ more) h ∙ sym (append-nil more), one, refl)

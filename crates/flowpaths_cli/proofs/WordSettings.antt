@@ -1,17 +1,17 @@
 -- Settings that words give are built: what is not refused of the words' values is in its range.
 use Rattle.std.proofs.Common.{◌≡◌, ◌≤◌, ℕ, Bool, true, false, not, ◌&&◌, ◌||◌, cond, Option, None, Some, lit≤, sym, subst, refl, true≢false}
-use Rattle.std.specs.Prelude.{IsTrue, is_some, unwrap_or, option_and_then, codes}
+use Rattle.std.specs.Prelude.{IsTrue, IfSome, is_some, nat_le, length, unwrap_or, option_and_then, codes}
 use Rattle.std.proofs.lemmas.Bool.{cond_both, leb-true, le-leb}
 use Rattle.std.proofs.lemmas.Slice.Eq.{bytes_eq-Decides}
 use Rattle.std.specs.Str.{bytes_eq}
 use Rattle.clap.specs.Words.{Text}
 use Rattle.decomposition.specs.declared.Mode.{Mode}
 use Rattle.decomposition.specs.declared.Mode.TheVariants.{Exact, Interval, Abs}
-use Rattle.graph_text.specs.Reading.{number_of}
+use Rattle.graph_text.specs.Reading.{are_digits, number_of}
 use Rattle.path_report.specs.ReportText.{is_mode}
 use Rattle.flowpaths_cli.specs.Numbers.{number_in, most_nodes, most_paths, most_seed}
 use Rattle.flowpaths_cli.specs.Right.{AreBuilt}
-use Rattle.flowpaths_cli.specs.Values.{Values, asks_model, has_bad_model, has_bad_paths, has_bad_nodes, has_bad_seed, has_stray_paths, lacks_paths, has_stray_safe, has_stray_seed, is_unbuilt, is_refused, mode_by, settings_by, default_nodes}
+use Rattle.flowpaths_cli.specs.Values.{Values, asks_model, has_bad_model, has_bad_paths, has_bad_nodes, has_bad_seed, has_stray_paths, lacks_paths, has_stray_safe, has_stray_seed, is_refused, mode_by, settings_by, default_nodes}
 use Rattle.flowpaths_cli.specs.declared.settings.Settings.{Settings}
 
 -- a number in a range
@@ -60,12 +60,29 @@ exact_named model k is = rw is refl
 exact-mode : (v : Values) → asks_model (codes "exact") v ≡ true → mode_by v ≡ Exact
 exact-mode v asks = exact_named (unwrap_or v.model (codes "exact")) _ ((bytes_eq-Decides _ _).0 asks)
 
-no_seed : (demo : Option Text) → is_some demo ≡ false → option_and_then (number_in 0 most_seed) demo ≡ None
-no_seed None none = refl
-no_seed (Some text) none = absurd (true≢false none)
+-- a seed that a text gives is in its range, and stands with the model exact
+seed-allowed : (text : Option Text) (mode : Mode) → (is_some text ≡ true → mode ≡ Exact)
+    → IfSome (option_and_then (number_in 0 most_seed) text) (λ seed. (mode ≡ Exact) × (seed ≤ most_seed))
+seed-allowed None mode exact = tt
+seed-allowed (Some text) mode exact =
+    spelled (are_digits text) (nat_le (length text) 10) (nat_le 0 (number_of text)) (nat_le (number_of text) most_seed) (leb-true (number_of text) most_seed)
+  where
+    spelled : (a b c d : Bool) → (d ≡ true → number_of text ≤ most_seed)
+        → IfSome (cond (a && (b && (c && d))) (Some (number_of text)) None) (λ seed. (mode ≡ Exact) × (seed ≤ most_seed))
+    spelled false b c d low = tt
+    spelled true false c d low = tt
+    spelled true true false d low = tt
+    spelled true true true false low = tt
+    spelled true true true true low = (exact refl, low refl)
 
--- the tests of safe runs and of what is not built, among those that are false
-last_tests : (v : Values) → is_refused v ≡ false → (has_stray_safe v ≡ false) × (is_unbuilt v ≡ false)
+-- what is denied together with one of two tests denies the first of them
+first-granted : (a b c : Bool) → (a && (not b || c)) ≡ false → a ≡ true → b ≡ true
+first-granted true true c fails holds = refl
+first-granted true false c fails holds = absurd (true≢false fails)
+first-granted false b c fails holds = absurd (true≢false (sym holds))
+
+-- the tests of safe runs and of a seed, among those that are false
+last_tests : (v : Values) → is_refused v ≡ false → (has_stray_safe v ≡ false) × (has_stray_seed v ≡ false)
 last_tests v fails =
     let model = neither (has_bad_model v) _ fails in
     let paths = neither (has_bad_paths v) _ model.1 in
@@ -75,7 +92,7 @@ last_tests v fails =
     let no_paths = neither (lacks_paths v) _ stray_paths.1 in
     let safe = neither (has_stray_safe v) _ no_paths.1 in
     let stray_seed = neither (has_stray_seed v) _ safe.1 in
-    (safe.0, (neither (is_unbuilt v) _ stray_seed.1).0)
+    (safe.0, stray_seed.0)
 
 -- settings by values that are not refused are built
 settings-built : (v : Values) → is_refused v ≡ false → AreBuilt (settings_by v)
@@ -87,7 +104,7 @@ settings-built v fails =
       most = nodes.1;
       mode = mode-within v;
       safe = λ safe. exact-mode v (together _ _ last.0 safe);
-      no_demo = no_seed v.demo last.1;
+      demo = seed-allowed v.demo (mode_by v) (λ given. exact-mode v (first-granted (is_some v.demo) (asks_model (codes "exact") v) _ last.1 given));
     }
 
 pub are-built : (v : Values) (s : Settings) → is_refused v ≡ false → s ≡ settings_by v → AreBuilt s

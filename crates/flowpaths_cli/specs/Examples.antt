@@ -1,5 +1,5 @@
 -- The settings of examples.
-use Rattle.std.specs.Prelude.{ℕ, List, true, false, Option, Some, None}
+use Rattle.std.specs.Prelude.{ℕ, List, true, false, Option, Some, None, codes}
 use Rattle.decomposition.specs.declared.Mode.{Mode}
 use Rattle.decomposition.specs.declared.Mode.TheVariants.{Exact}
 use Rattle.flowpaths_cli.specs.declared.settings.Settings.{Settings}
@@ -15,3 +15,7 @@ naming_safely nodes file = Some (record { mode = Exact; nodes = nodes; safe = tr
 -- the settings with a model and a name
 abbrev pub naming_in : Mode → List ℕ → Option Settings
 naming_in mode file = Some (record { mode = mode; nodes = 20000; safe = false; demo = None; file = file })
+
+-- the settings with a largest number of tokens and a seed
+abbrev pub generating : ℕ → ℕ → Option Settings
+generating nodes seed = Some (record { mode = Exact; nodes = nodes; safe = false; demo = Some seed; file = codes "-" })

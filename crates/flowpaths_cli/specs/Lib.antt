@@ -14,4 +14,7 @@ pub mod Widened
 pub mod Crowds
 pub mod Run
 pub mod Reporting
+pub mod Marks
+pub mod Tally
+pub mod Generated
 pub mod AcceptedReports

@@ -30,7 +30,7 @@ use Rattle.path_report.specs.declared.report.Cert.TheVariants.{Zero, Wide, Tree,
 use Rattle.path_report.specs.declared.report.Trail.{Trail}
 use Rattle.path_report.specs.ReportText.{is_mode, is_regular, text_of}
 use Rattle.flowpaths_cli.specs.Booking.{IsAtMostFirst, IsKnownWhereBookedFit}
-use Rattle.flowpaths_cli.specs.Numbers.{most_nodes}
+use Rattle.flowpaths_cli.specs.Numbers.{most_nodes, most_seed}
 use Rattle.flowpaths_cli.specs.declared.settings.Settings.{Settings}
 
 -- the models in which the number of paths is to be least
@@ -180,13 +180,13 @@ pub record SolvedRight (set : Settings) (i : Instance) (s : Solved) : Type 0 whe
   pub optimal : s.mark ≡ Optimal → IsOptimal set.mode i s.paths
   pub infeasible : s.mark ≡ Infeasible → IsInfeasible set.mode i
 
--- The settings that are built: a model, numbers in their ranges, safe runs in the exact model alone, and as yet no generated text.
+-- The settings that are built: a model, numbers in their ranges, and safe runs and a generated text in the exact model alone.
 pub record AreBuilt (s : Settings) : Type 0 where
   pub least : 1 ≤ s.nodes
   pub most : s.nodes ≤ most_nodes
   pub mode : IsTrue (is_mode s.mode)
   pub safe : s.safe ≡ true → s.mode ≡ Exact
-  pub no_demo : s.demo ≡ None
+  pub demo : IfSome s.demo (λ seed. (s.mode ≡ Exact) × (seed ≤ most_seed))
 
 -- a body is right for what its block is read as: the same refusal, or a right solved report
 abbrev pub BodyRight : Settings → Result RawGraph Refusal → Body → Type 0

@@ -85,14 +85,10 @@ has_stray_safe v = v.safe && not (asks_model (codes "exact") v)
 abbrev pub has_stray_seed : Values → Bool
 has_stray_seed v = is_some v.demo && (not (asks_model (codes "exact") v) || (v.safe || names_file v))
 
--- what is asked for is not built yet: a generated text
-abbrev pub is_unbuilt : Values → Bool
-is_unbuilt v = is_some v.demo
-
 -- the tests by which values are refused
 abbrev pub refusals : List (Values → Bool)
 refusals = has_bad_model ∷ has_bad_paths ∷ has_bad_nodes ∷ has_bad_seed ∷ has_stray_paths ∷ lacks_paths ∷ has_stray_safe ∷ has_stray_seed
-    ∷ is_unbuilt ∷ []
+    ∷ []
 
 abbrev pub is_refused : Values → Bool
 is_refused v = list_any (λ test. test v) refusals

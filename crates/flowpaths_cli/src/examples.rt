@@ -2,7 +2,7 @@
 ghost use Rattle.std.specs.Prelude.{◌≡◌, List, [], ◌∷◌, codes, IsNone};
 ghost use Rattle.flowpaths_cli.specs.Words.{settings_of};
 ghost use Rattle.decomposition.specs.declared.Mode.TheVariants.{Interval, Abs};
-ghost use Rattle.flowpaths_cli.specs.Examples.{naming, naming_safely, naming_in};
+ghost use Rattle.flowpaths_cli.specs.Examples.{naming, naming_safely, naming_in, generating};
 
 /// Words that are taken, and the settings that they give.
 #[tactic(auto, unfolding(crate::proofs::OnWords::words_on_literals))]
@@ -21,6 +21,8 @@ pub fn words_are_taken()
     ensures exact { settings_of (codes "--model=exact" ∷ []) ≡ naming 20000 (codes "-") }
     ensures ranges { settings_of (codes "--model" ∷ codes "interval" ∷ []) ≡ naming_in Interval (codes "-") }
     ensures errors { settings_of (codes "--paths=3" ∷ codes "--model=abs" ∷ codes "x" ∷ []) ≡ naming_in (Abs 3) (codes "x") }
+    ensures seed { settings_of (codes "--demo" ∷ codes "1" ∷ []) ≡ generating 20000 1 }
+    ensures seed_and_dash { settings_of (codes "--nodes=7" ∷ codes "--demo=2147483647" ∷ codes "-" ∷ []) ≡ generating 7 2147483647 }
     ensures twice { settings_of (codes "--" ∷ codes "--" ∷ []) ≡ naming 20000 (codes "--") }
 {}
 
@@ -39,7 +41,10 @@ pub fn words_are_refused()
     ensures greater { IsNone (settings_of (codes "--nodes" ∷ codes "50001" ∷ [])) }
     ensures sign { IsNone (settings_of (codes "--nodes=+7" ∷ [])) }
     ensures help { IsNone (settings_of (codes "--help" ∷ [])) }
-    ensures not_built { IsNone (settings_of (codes "--demo" ∷ codes "1" ∷ [])) }
+    ensures greater_seed { IsNone (settings_of (codes "--demo" ∷ codes "2147483648" ∷ [])) }
+    ensures seed_and_file { IsNone (settings_of (codes "--demo" ∷ codes "1" ∷ codes "x" ∷ [])) }
+    ensures seed_and_safe { IsNone (settings_of (codes "--demo" ∷ codes "1" ∷ codes "--safe" ∷ [])) }
+    ensures seed_and_model { IsNone (settings_of (codes "--demo" ∷ codes "1" ∷ codes "--model" ∷ codes "interval" ∷ [])) }
     ensures no_paths { IsNone (settings_of (codes "--model" ∷ codes "abs" ∷ [])) }
     ensures not_exact { IsNone (settings_of (codes "--model" ∷ codes "interval" ∷ codes "--safe" ∷ [])) }
     ensures other { IsNone (settings_of (codes "--nodesx=7" ∷ [])) }

@@ -1,7 +1,7 @@
 //! What the words give to the arguments of the command, and what of it is refused.
 ghost use Rattle.std.specs.Prelude.{◌≡◌, ◌≢◌, ◌||◌, [], IfOk, OnOk, option_and_then, option_copied};
 ghost use Rattle.flowpaths_cli.specs.Numbers.{number_in};
-ghost use Rattle.flowpaths_cli.specs.Values.{values_in, asks_model, is_bad_number, names_file, has_bad_model, has_bad_paths, has_bad_nodes, has_bad_seed, has_stray_paths, lacks_paths, has_stray_safe, has_stray_seed, is_unbuilt, is_refused, mode_by, settings_by};
+ghost use Rattle.flowpaths_cli.specs.Values.{values_in, asks_model, is_bad_number, names_file, has_bad_model, has_bad_paths, has_bad_nodes, has_bad_seed, has_stray_paths, lacks_paths, has_stray_safe, has_stray_seed, is_refused, mode_by, settings_by};
 ghost use Rattle.flowpaths_cli.specs.Words.{texts, faults_of, values_of};
 
 use crate::command::command;
@@ -91,13 +91,6 @@ impl<'a> Given<'a> {
         self.demo.is_some() && (!self.asks_model("exact") || self.safe || self.names_file())
     }
 
-    /// Whether what is asked for is not built yet: a generated text.
-    fn is_unbuilt(self) -> bool
-        ensures { result ≡ is_unbuilt (values_in self.entry) }
-    {
-        self.demo.is_some()
-    }
-
     /// Whether a number is none, or out of its range.
     fn has_bad_number(self) -> bool
         ensures { result ≡ (has_bad_paths (values_in self.entry) || (has_bad_nodes (values_in self.entry) || has_bad_seed (values_in self.entry))) }
@@ -117,7 +110,6 @@ impl<'a> Given<'a> {
             || self.lacks_paths()
             || self.has_stray_safe()
             || self.has_stray_seed()
-            || self.is_unbuilt()
     }
 
     /// The model, with its number of paths.

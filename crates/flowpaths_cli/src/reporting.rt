@@ -32,7 +32,7 @@ fn status_after(status: Status, body: &Body) -> Status
 }
 
 /// What is said of a block that is read so, with the labels for its report.
-fn answer(
+pub fn answer(
     alloc: Global,
     settings: &Settings,
     body: Result<RawGraph, Refusal>,
