@@ -1,11 +1,7 @@
 //! Reports with the list of the maximal safe runs.
 
-use crate::problems::DIAMONDS;
 use crate::runs::{ROOM, run};
-use dag_net::Net;
 use flow_io::{MemInputs, MemOutput, Status};
-use greedy_paths::decompose;
-use safe_paths::{excess, maximal_safe};
 use std::test::Fail;
 
 /// Graphs, and the end of their reports behind the certificate.
@@ -35,26 +31,6 @@ fn maximal_runs_are_listed(rt: HostRuntime) -> Result<(), Fail> {
         )?;
         assert!(rt; ran.out.bytes().ends_with(list.as_bytes()), "{graph}");
         assert_eq!(rt; ran.status, Status::Clean, "{graph}");
-    }
-    Ok(())
-}
-
-#[test]
-fn the_diamonds_keep_three_runs(rt: HostRuntime) -> Result<(), Fail> {
-    let alloc = rt.alloc();
-    let net = Net::build(alloc, 7, &DIAMONDS)?;
-    assert!(rt; net.edges() == 8);
-    let flow = [5, 5, 2, 2, 4, 4, 3, 3];
-    let answer = decompose(alloc, &net, &flow)?;
-    let runs = maximal_safe(alloc, &net, &flow, &answer)?;
-    let kept: [(&[u32], i128); 3] = [(&[0, 1, 4, 5], 2), (&[0, 1, 6, 7], 1), (&[2, 3], 2)];
-    assert_eq!(rt; runs.len(), kept.len());
-    for (i, (run, surplus)) in kept.iter().enumerate() {
-        assert!(rt; i < runs.len() && runs.get(i).as_slice() == *run, "{run:?}");
-        assert!(rt;
-            net.is_run(run) && excess(&net, &flow, run) == *surplus,
-            "{run:?}"
-        );
     }
     Ok(())
 }

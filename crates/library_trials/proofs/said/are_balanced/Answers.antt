@@ -3,7 +3,7 @@ use Rattle.std.specs.Prelude.{IfNone}
 use Rattle.decomposition.specs.Flow.{IsBalanced}
 use Rattle.decomposition.specs.Instance.{range_at}
 use Rattle.cert_check.proofs.Lows.{lows, lows-at, balanced-same}
-use Rattle.flow_trials.proofs.said.are_balanced.Goals as goal
+use Rattle.library_trials.proofs.said.are_balanced.Goals as goal
 
 pub returns-in-None : goal.returns-in-None
 returns-in-None c =

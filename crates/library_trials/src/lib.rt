@@ -1,0 +1,31 @@
+//! Trials of the libraries below the programs.
+#![tactic(auto)]
+
+#[cfg(test)]
+mod blocks;
+#[cfg(test)]
+mod booked;
+#[cfg(test)]
+mod bounds;
+#[cfg(test)]
+mod calls;
+#[cfg(test)]
+mod certs;
+#[cfg(test)]
+mod constraints;
+#[cfg(test)]
+mod fronts;
+#[cfg(test)]
+mod problems;
+#[cfg(test)]
+mod readings;
+#[cfg(test)]
+mod reports;
+#[cfg(test)]
+mod safe;
+#[cfg(test)]
+mod said;
+#[cfg(test)]
+mod searches;
+#[cfg(test)]
+mod trees;
