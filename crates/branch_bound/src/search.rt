@@ -1,6 +1,6 @@
 //! The search: it applies the rule token of the first box again and again.
 
-ghost use Rattle.std.specs.Prelude.{◌≡◌, ◌≤◌, ◌<◌, [], ◌++◌, ℕ, List, length, Some, None, IfOk, OnOk, OnErr, IfSome, IsTrue};
+ghost use Rattle.std.specs.Prelude.{◌≡◌, ◌≤◌, ◌<◌, [], ◌++◌, List, length, Some, None, IfOk, OnOk, OnErr, IfSome, IsTrue};
 ghost use Rattle.std.specs.List.{list_all};
 ghost use Rattle.decomposition.specs.declared.Mode.{Mode};
 ghost use Rattle.decomposition.specs.declared.Token.{Token};

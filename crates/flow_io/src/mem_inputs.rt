@@ -1,7 +1,7 @@
 //! Named inputs in memory, of which chosen calls fail.
-ghost use Rattle.std.specs.Prelude.{◌≡◌, ◌≢◌, ◌≤◌, List, ℕ, Bool, [], ◌∷◌, ◌++◌, length, min, Option, Some, None, option_map, is_some, is_err, IfOk, OnOk, OnErr, bytes_eq};
+ghost use Rattle.std.specs.Prelude.{◌≡◌, ◌≤◌, [], ◌∷◌, ◌++◌, length, min, Option, Some, None, option_map, is_err, IfOk, OnOk, OnErr, bytes_eq};
 ghost use Rattle.std.specs.List.{position};
-ghost use Rattle.flow_io.specs.Outside.{Selected, Unselected, HasCause, Starts, Puts, after_read, skipped};
+ghost use Rattle.flow_io.specs.Outside.{HasCause, Puts, skipped};
 ghost use Rattle.flow_io.specs.Counter.{counted};
 ghost use Rattle.flow_io.specs.Store.{Store, held_in, is_to_fail, select_fails, count_given, added, after_call, after_fault};
 

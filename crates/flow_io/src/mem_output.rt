@@ -1,5 +1,5 @@
 //! An output in memory, of which chosen writes fail.
-ghost use Rattle.std.specs.Prelude.{◌≡◌, ◌+◌, ◌≤◌, List, ℕ, Bool, [], ◌∷◌, ◌++◌, take, Some, is_err, vec_capacity, vec_len, IfOk, OnOk, OnErr};
+ghost use Rattle.std.specs.Prelude.{◌≡◌, ◌+◌, ◌≤◌, [], ◌∷◌, ◌++◌, take, Some, is_err, vec_capacity, vec_len, IfOk, OnOk, OnErr};
 ghost use Rattle.flow_io.specs.Outside.{HasCause, TakesFront};
 ghost use Rattle.flow_io.specs.Sink.{Sink, write_fails, count_taken, written_to, failed_write};
 

@@ -39,7 +39,7 @@ reports-right s [] [] text built are = are
 reports-right s [] (report ∷ reports) text built are = are
 reports-right s (block ∷ shown) [] text built are = are
 reports-right s (block ∷ shown) (report ∷ reports) text built (first, rest, joined, one, more) =
-    (first, rest, joined, record { regular = one.spelled.regular; text_is = one.spelled.spelled }, report-right s block report first built one, reports-right s shown reports rest built more)
+    (first, rest, joined, one.spelled, report-right s block report first built one, reports-right s shown reports rest built more)
 
 pub outputs_are_answered_yes : OutputsAreAnsweredYes
 outputs_are_answered_yes s graphs text outcomes printed built (reports, are) =

@@ -25,7 +25,7 @@ use Rattle.report_texts.specs.Laws.{Labelled, IsWritten, text_in}
 use Rattle.report_texts.proofs.Cutting.{first_texts_are_cut_off}
 use Rattle.report_texts.proofs.Models.{models_are_told}
 use Rattle.flowcheck_cli.specs.CheckLines.{AreOutcomes, counts_line, counts_line_if_other, is_unread, is_yes, outcome_line, outcome_lines, status_of, status_of_all}
-use Rattle.flowcheck_cli.specs.Handed.{labels_of}
+use Rattle.program_runs.specs.HandedBlocks.{labels_of}
 use Rattle.flowcheck_cli.specs.Outcomes.{BodyFailsAt, IsOutcome, IsRightBody, IsRightReport, ReportFailsAt}
 use Rattle.flowcheck_cli.specs.ReportTexts.{line_count, model_in, report_texts}
 use Rattle.flowcheck_cli.specs.RightReports.{AreRightReports, all_yes, yes_lines, RightReportsAreAnsweredYes, RightReportsAreClean}

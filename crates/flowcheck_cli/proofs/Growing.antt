@@ -9,7 +9,7 @@ use Rattle.decomposition.specs.declared.Mode.{Mode}
 use Rattle.graph_text.specs.Blocks.{TextBlock, numbered, blocks, graphs, groups_of, lead}
 use Rattle.flowcheck_cli.specs.CheckLines.{AreOutcomes, outcome_lines, outcome_line, status_of}
 use Rattle.graph_text.specs.declared.block.Block.{Block}
-use Rattle.flowcheck_cli.specs.Handed.{IsHandedFor}
+use Rattle.program_runs.specs.HandedBlocks.{IsHandedFor}
 use Rattle.flowcheck_cli.specs.Outcomes.{IsOutcome}
 use Rattle.flowcheck_cli.specs.ReportTexts.{report_texts, model_in, line_count}
 use Rattle.flowcheck_cli.specs.Run.{AreLines, AreFirstLines}

@@ -18,7 +18,7 @@ use Rattle.path_report.specs.declared.report.Body.TheVariants.{Refused, Solved a
 use Rattle.cert_check.specs.Verdict.{IsVerdictOn, IsShortBody, BodyFailsAt as ClaimFailsAt}
 use Rattle.cert_check.specs.declared.report.Verdict.{Verdict}
 use Rattle.cert_check.specs.declared.report.Verdict.TheVariants.{Yes, No}
-use Rattle.flowcheck_cli.specs.Handed.{IsHandedFor, labels_of}
+use Rattle.program_runs.specs.HandedBlocks.{IsHandedFor, labels_of}
 use Rattle.flowcheck_cli.specs.Outcomes.{NamesBlock, IsBodyVerdict, IsReportVerdict, IsBlockOutcome, outcome_of}
 use Rattle.flowcheck_cli.specs.Short.{IsSmall}
 use Rattle.flowcheck_cli.proofs.ReportSizes.{place-small}

@@ -13,7 +13,7 @@ use Rattle.graph_text.specs.declared.block.Block.{Block}
 use Rattle.graph_text.specs.declared.reader.BlockReader.{BlockReader}
 use Rattle.graph_text.proofs.Growing.{complete-grows, blocks-begin}
 use Rattle.graph_text.proofs.TextBlocks.{complete-block, blocks-block}
-use Rattle.flowcheck_cli.specs.Handed.{IsHandedFor}
+use Rattle.program_runs.specs.HandedBlocks.{IsHandedFor}
 use Rattle.flowcheck_cli.specs.Run.{AreLines, AreFirstLines}
 use Rattle.flowcheck_cli.specs.Checking.{Wrote, WroteFirst, WroteBeginning, Underway, IsUnderway, AreHandedFor}
 use Rattle.flowcheck_cli.specs.declared.checking.Checking.{Checking}

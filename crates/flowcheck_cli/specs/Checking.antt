@@ -1,15 +1,13 @@
 -- How far a check has come: what it took of the graph text, and what it wrote.
-use Rattle.std.specs.Prelude.{◌≡◌, ◌⊎◌, ℕ, ◌+◌, ◌^◌, ◌≤◌, ◌<◌, List, [], ◌∷◌, length, false, Option, Some, None}
+pub use Rattle.program_runs.specs.HandedBlocks.{AreHandedFor}
+use Rattle.std.specs.Prelude.{◌≡◌, ◌⊎◌, ℕ, ◌+◌, ◌^◌, ◌≤◌, ◌<◌, List, [], ◌∷◌, length, false, Option, None}
 use Rattle.flow_io.specs.Outside.{Selected, Adds, Took, Starts, Unselected}
 use Rattle.flow_io.specs.declared.status.Status.{Status}
 use Rattle.flow_io.specs.declared.status.Status.TheVariants.{Clean, Words, Fault, Memory, Long}
 use Rattle.graph_text.specs.Blocks.{TextBlock, blocks, complete}
 use Rattle.graph_text.specs.Reader.{StandsFor, mode_of, waiting_of, has_failed, has_finished}
-use Rattle.graph_text.specs.declared.block.Block.{Block}
 use Rattle.graph_text.specs.declared.reader.BlockReader.{BlockReader}
-use Rattle.decomposition.specs.declared.Mode.{Mode}
 use Rattle.flowcheck_cli.specs.CheckLines.{AreOutcomes, outcome_lines, status_of}
-use Rattle.flowcheck_cli.specs.Handed.{IsHandedFor}
 use Rattle.flowcheck_cli.specs.ReportTexts.{report_texts, model_in, line_count}
 use Rattle.flowcheck_cli.specs.Run.{IsDone, AreLines, AreFirstLines, BeginsLines, IsPrintedWith, BeginsPrinted}
 use Rattle.flowcheck_cli.specs.Inputs.{IsAtEnd}
@@ -85,11 +83,6 @@ pub record Underway (reports : List ℕ) (checking : Checking) (reader : BlockRe
   pub goes_on : has_finished reader ≡ false
   pub mode_is : mode_of reader ≡ checking.mode
   pub wrote : Wrote reports checking (complete bytes) before now
-
--- the block that waits, if one does, is handed out for the one block of the list; else the list is empty
-abbrev pub AreHandedFor : Mode → List TextBlock → Option Block → Type 0
-AreHandedFor mode texts None = texts ≡ []
-AreHandedFor mode texts (Some block) = (text : TextBlock) × (texts ≡ text ∷ []) × IsHandedFor mode text block
 
 -- the run is between two pieces, after fewer than so many bytes
 abbrev pub IsUnderway : Checking → BlockReader → ℕ → Option (List ℕ) → Type 0

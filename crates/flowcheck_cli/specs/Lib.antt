@@ -1,5 +1,4 @@
 pub mod CheckLines
-pub mod Handed
 pub mod Outcomes
 pub mod ReportTexts
 pub mod Short

@@ -1,6 +1,6 @@
 -- What a run tells of its answer.
-use Rattle.std.specs.Prelude.{◌⊎◌, ℕ, List, [], Option, codes}
-use Rattle.flow_io.specs.Outside.{Adds, AddsPrefix}
+pub use Rattle.program_runs.specs.Writing.{Notes}
+use Rattle.std.specs.Prelude.{ℕ, List, [], codes}
 use Rattle.flow_io.specs.declared.status.Status.{Status}
 use Rattle.flow_io.specs.declared.status.Status.TheVariants.{Clean, Partial, Refused, Words, Fault, Memory, Long}
 
@@ -13,7 +13,3 @@ note_of Words = codes "usage: flowcheck GRAPH REPORT\n"
 note_of Fault = codes "flowcheck: read or write fault\n"
 note_of Memory = codes "flowcheck: out of memory\n"
 note_of Long = codes "flowcheck: input too long\n"
-
--- the line was added, or a beginning of it where the count of faults rose
-abbrev pub Notes : List ℕ → Option (List ℕ) → Option (List ℕ) → Type 0 → Type 0
-Notes line before after rose = Adds before after line ⊎ (rose × AddsPrefix before after line)

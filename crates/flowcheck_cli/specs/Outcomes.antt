@@ -14,7 +14,7 @@ use Rattle.path_report.specs.declared.report.Body.TheVariants.{Refused}
 use Rattle.cert_check.specs.Verdict.{IsAcceptedBody, BodyFailsAt as ClaimFailsAt}
 use Rattle.cert_check.specs.declared.report.Verdict.{Verdict}
 use Rattle.cert_check.specs.declared.report.Verdict.TheVariants.{Yes as Accepted, No as Fails}
-use Rattle.flowcheck_cli.specs.Handed.{labels_of}
+use Rattle.program_runs.specs.HandedBlocks.{labels_of}
 use Rattle.flowcheck_cli.specs.declared.outcome.Outcome.{Outcome}
 use Rattle.flowcheck_cli.specs.declared.outcome.Outcome.TheVariants.{Yes, No, Unread}
 

@@ -8,7 +8,7 @@ use Rattle.graph_text.specs.Reading.{read}
 use Rattle.path_report.specs.BadLines.{IsTextOf}
 use Rattle.path_report.specs.declared.report.Report.{Report}
 use Rattle.flowcheck_cli.specs.CheckLines.{IsPrinted, outcome_line, status_of_all}
-use Rattle.flowcheck_cli.specs.Handed.{labels_of}
+use Rattle.program_runs.specs.HandedBlocks.{labels_of}
 use Rattle.flowcheck_cli.specs.Outcomes.{IsRightReport}
 use Rattle.flowcheck_cli.specs.ReportTexts.{report_texts}
 use Rattle.flowcheck_cli.specs.declared.outcome.Outcome.{Outcome}

@@ -1,8 +1,11 @@
 -- What a run of the top call took and wrote.
-use Rattle.std.specs.Prelude.{◌≡◌, ◌⊎◌, ℕ, ◌^◌, ◌<◌, List, [], ◌∷◌, ◌++◌, length, take, Option, Some, None, IsSome}
+pub use Rattle.program_runs.specs.Inputs.{IsDone}
+pub use Rattle.program_runs.specs.Writing.{WhereWritten}
+pub use Rattle.program_runs.specs.HandedBlocks.{blocks_at}
+use Rattle.std.specs.Prelude.{◌≡◌, ◌⊎◌, ℕ, ◌^◌, ◌<◌, List, [], ◌++◌, length, take, Option, Some, None, IsSome}
 use Rattle.flow_io.specs.Outside.{Selected}
 use Rattle.flow_io.specs.declared.status.Status.{Status}
-use Rattle.flow_io.specs.declared.status.Status.TheVariants.{Clean, Partial, Refused, Words, Fault, Memory, Long}
+use Rattle.flow_io.specs.declared.status.Status.TheVariants.{Fault, Memory, Long}
 use Rattle.graph_text.specs.Blocks.{TextBlock, blocks, complete}
 use Rattle.flowcheck_cli.specs.CheckLines.{ArePrinted, IsPrinted, status_of_all}
 use Rattle.flowcheck_cli.specs.Inputs.{Seen, left_of, taken, TakesFirst}
@@ -22,11 +25,6 @@ WhereBothSeen None reports last P = Unit {0}
 WhereBothSeen (Some graphs) None last P = Unit {0}
 WhereBothSeen (Some graphs) (Some reports) None P = Unit {0}
 WhereBothSeen (Some graphs) (Some reports) (Some last) P = P (record { graphs = graphs; reports = reports; last = last })
-
--- the run added a text of which P holds, if the output tells what it holds
-abbrev pub WhereWritten : Option (List ℕ) → Option (List ℕ) → (List ℕ → Type 0) → Type 0
-WhereWritten None after P = Unit {0}
-WhereWritten (Some before) after P = (text : List ℕ) × (after ≡ Some (before ++ text)) × P text
 
 -- what is told of each of the two inputs
 abbrev pub graph_seen : BothSeen → Seen
@@ -50,16 +48,6 @@ IsAtGraphs names seen = IsSome (graphs_left names seen)
 abbrev pub reports_taken : InputNames → BothSeen → List ℕ
 reports_taken names seen = taken names.report (report_seen seen)
 
--- the answers after which both inputs were read to their ends
-abbrev pub IsDone : Status → Type 0
-IsDone Clean = Unit {0}
-IsDone Partial = Unit {0}
-IsDone Refused = Unit {0}
-IsDone Words = ⊥
-IsDone Fault = ⊥
-IsDone Memory = ⊥
-IsDone Long = ⊥
-
 -- the text is the lines of those of these blocks that have a text
 abbrev pub AreLines : List ℕ → List TextBlock → List ℕ → Type 0
 AreLines reports shown text = (outcomes : List Outcome) × ArePrinted reports shown outcomes text
@@ -80,12 +68,6 @@ IsPrintedWith graphs reports status text = (outcomes : List Outcome) × IsPrinte
 -- the text is a beginning of all that is printed
 abbrev pub BeginsPrinted : List ℕ → List ℕ → List ℕ → Type 0
 BeginsPrinted graphs reports text = (rest : List ℕ) × (outcomes : List Outcome) × IsPrinted graphs reports outcomes (text ++ rest)
-
--- the blocks that a cut off run may have checked: all of them where nothing is left, and else the complete ones
-abbrev pub blocks_at : List ℕ → Option (List ℕ) → List TextBlock
-blocks_at bytes None = complete bytes
-blocks_at bytes (Some []) = blocks bytes
-blocks_at bytes (Some (b ∷ left)) = complete bytes
 
 -- the text is a beginning of what may be printed after these bytes: of lines of blocks, and where nothing is left also of all
 abbrev pub BeginsAt : List ℕ → List ℕ → Option (List ℕ) → List ℕ → Type 0

@@ -3,7 +3,7 @@ ghost use Rattle.std.specs.Prelude.{◌≡◌, ◌≢◌, ◌+◌, ◌≤◌, �
 ghost use Rattle.flow_io.specs.Outside.{Rose};
 ghost use Rattle.graph_text.specs.Blocks.{TextBlock, blocks, complete};
 ghost use Rattle.graph_text.specs.Reader.{waiting_of, IsTaken};
-ghost use Rattle.flowcheck_cli.specs.Handed.{IsHandedFor};
+ghost use Rattle.program_runs.specs.HandedBlocks.{IsHandedFor};
 ghost use Rattle.flowcheck_cli.specs.Checking.{IsUnbegun, Wrote, WroteFirst, WroteBeginning, Underway, IsUnderway, IsShort, AreHandedFor};
 
 use crate::judging::judge;

@@ -3,7 +3,7 @@ ghost use Rattle.std.specs.Prelude.{◌≡◌, ◌≢◌, ◌≤◌, ◌^◌, �
 ghost use Rattle.flow_io.specs.Outside.{Rose, HasCause};
 ghost use Rattle.graph_text.specs.Blocks.{blocks};
 ghost use Rattle.flowcheck_cli.specs.ReportTexts.{report_texts};
-ghost use Rattle.flowcheck_cli.specs.Checking.{Wrote, WroteFirst, Printed, PrintedBeginning, Underway, IsUnderway, IsShort};
+ghost use Rattle.flowcheck_cli.specs.Checking.{Wrote, WroteFirst, Printed, PrintedBeginning, Underway, IsShort};
 
 use crate::checking::{Checking, check_last};
 use crate::printing::write_counts;

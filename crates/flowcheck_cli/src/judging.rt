@@ -2,7 +2,7 @@
 ghost use Rattle.std.specs.Prelude.{◌≡◌, ◌≤◌, ◌<◌, ◌+◌, ◌^◌, length, IfOk, IfErr};
 ghost use Rattle.graph_text.specs.Blocks.{TextBlock};
 ghost use Rattle.path_report.specs.BadLines.{first_bad_line, IsTextOf, RefusesAs};
-ghost use Rattle.flowcheck_cli.specs.Handed.{IsHandedFor, labels_of};
+ghost use Rattle.program_runs.specs.HandedBlocks.{IsHandedFor, labels_of};
 ghost use Rattle.flowcheck_cli.specs.Outcomes.{IsOutcome, line_of_file, outcome_of};
 ghost use Rattle.flowcheck_cli.specs.declared.outcome.Outcome.TheVariants.{Unread};
 ghost use Rattle.flowcheck_cli.specs.Short.{IsSmall};

@@ -3,7 +3,6 @@
 
 mod call;
 mod checking;
-mod digits;
 mod ending;
 pub mod examples;
 mod graphs;

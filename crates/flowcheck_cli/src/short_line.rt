@@ -2,7 +2,7 @@
 ghost use Rattle.std.specs.Prelude.{◌≡◌, ◌≤◌, ◌+◌, ◌∷◌, [], ◌++◌, length, decimal};
 ghost use Rattle.path_report.specs.Sending.{spaced};
 
-use crate::digits::Digits;
+use path_report::Digits;
 use std::marker::Model;
 
 /// The bytes of a line so far.

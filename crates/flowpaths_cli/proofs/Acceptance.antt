@@ -1,7 +1,7 @@
 -- What a right report says is accepted, line by line.
 use Rattle.std.proofs.Common.{◌≡◌, ◌<◌, ℕ, List, ◌∷◌, Option, Some, None, Ok, refl, sym, subst, arith}
 use Rattle.std.specs.Prelude.{IfSome, IsSomeAnd}
-use Rattle.cert_check.specs.Accepted.{MarkFits, PathsFit, ShowsBound, ShowsNone, CertFits, IsAsked, LeavesOpen, TrailFits, SafeFits, CountsPaths as Counts}
+use Rattle.cert_check.specs.Accepted.{MarkFits, PathsFit, ShowsBound, ShowsNone, CertFits, IsAsked, LeavesOpen, TrailFits, SafeFits}
 use Rattle.cert_check.specs.Verdict.{IsAcceptedBody, IsAcceptedSolved}
 use Rattle.cert_check.specs.Verdict.Line.{MarkLine, UpperLine, CertLine, TrailLine, SafeLine}
 use Rattle.decomposition.specs.declared.Decision.{Decision}
@@ -23,13 +23,8 @@ use Rattle.flowpaths_cli.specs.AcceptedReports.{RightReportsAreAccepted}
 use Rattle.flowpaths_cli.specs.Right.{AreBuilt, AreListed, ArePathsFor, BodyRight, CountsPaths, HasEachPathOnce, HasRanges, IsCertFor, IsCertOfNone, IsMarked, IsTrailFor, SolvedRight, decision_between}
 use Rattle.flowpaths_cli.specs.declared.settings.Settings.{Settings}
 
--- the number of paths is to be least
-counts : (mode : Mode) → CountsPaths mode → Counts mode
-counts Exact h = tt
-counts Interval h = tt
-counts (Abs k) h = h
-
-ranges_count : (mode : Mode) → HasRanges mode → Counts mode
+-- where there are ranges, the number of paths is to be least
+ranges_count : (mode : Mode) → HasRanges mode → CountsPaths mode
 ranges_count Exact h = tt
 ranges_count Interval h = tt
 ranges_count (Abs k) h = h
@@ -45,7 +40,7 @@ paths_fit mode i (Some upper) paths once h = (once, h.0, h.1)
 
 shows_bound : (nodes : ℕ) (mode : Mode) (i : Instance) (lower : ℕ) (cert : Cert) → IsCertFor nodes mode i lower cert → ShowsBound mode i lower cert
 shows_bound nodes mode i lower Zero h = h
-shows_bound nodes mode i lower (Wide edges) h = (counts mode h.counts, h.counted, h.antichain)
+shows_bound nodes mode i lower (Wide edges) h = (h.counts, h.counted, h.antichain)
 shows_bound nodes mode i lower (Tree tree) h = (h.decision, h.bounding)
 shows_bound nodes mode i lower (Cut side vertices) h = h
 shows_bound nodes mode i lower (Crowd edge rules) h = h
@@ -55,7 +50,7 @@ shows_none nodes mode i Zero h = h
 shows_none nodes mode i (Wide edges) h = h
 shows_none nodes mode i (Tree tree) h = (h.decision, h.refuted)
 shows_none nodes mode i (Cut side vertices) h = (ranges_count mode h.0, h.1)
-shows_none nodes mode i (Crowd edge rules) h = (counts mode h.0, h.1)
+shows_none nodes mode i (Crowd edge rules) h = (h.0, h.1)
 
 cert_fits : (nodes : ℕ) (mode : Mode) (i : Instance) (s : Solved) (mark : Mark) → IsMarked nodes mode i s mark → CertFits mode i mark s.lower s.cert
 cert_fits nodes mode i s Optimal h =

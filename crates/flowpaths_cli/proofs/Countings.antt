@@ -1,5 +1,5 @@
 -- A run over a text between two parts of it, and how it goes on.
-use Rattle.std.proofs.Common.{◌≡◌, ◌≤◌, ◌+◌, ◌*◌, ◌^◌, ◌<◌, ℕ, false, List, [], ◌++◌, length, take, drop, Option, None, refl, sym, ap, subst, ◌∙◌, arith, length-append, append-nil}
+use Rattle.std.proofs.Common.{◌≡◌, ◌≤◌, ◌+◌, ◌^◌, ◌<◌, ℕ, false, List, [], ◌++◌, length, take, drop, None, refl, sym, ap, subst, ◌∙◌, arith, length-append, append-nil}
 use Rattle.std.proofs.lemmas.List.{take-append-drop}
 use Rattle.graph_text.specs.Blocks.{TextBlock, blocks, complete}
 use Rattle.graph_text.specs.Reader.{Feeds, Ends, IsNew, IsTaken, mode_of, waiting_of, has_failed, has_finished}
@@ -12,7 +12,7 @@ use Rattle.flowpaths_cli.specs.Generated.{IsTallied, Counting}
 use Rattle.flowpaths_cli.specs.Reporting.{Underway, AreHandedFor}
 use Rattle.flowpaths_cli.specs.Right.{status_of}
 use Rattle.flowpaths_cli.specs.Tally.{tally_of}
-use Rattle.flowpaths_cli.proofs.Underways.{Grows, grows-feed, grows-end}
+use Rattle.flowpaths_cli.proofs.Underways.{grows-feed, grows-end}
 
 -- the run as one that tells no output
 pub as-underway : (s : Settings) (reader : BlockReader) (bytes : List ℕ) (t : Tally) → Counting s reader bytes t → (status : Status) × Underway s reader bytes status None None

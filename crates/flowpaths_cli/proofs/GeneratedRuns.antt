@@ -1,6 +1,6 @@
 -- What a run over a generated text counts and writes.
-use Rattle.std.proofs.Common.{◌≡◌, ◌≤◌, ◌<◌, ◌+◌, ◌^◌, ℕ, List, [], ◌++◌, length, take, drop, Option, Some, None, Result, Ok, Err, refl, sym, ap, subst, ◌∙◌, ⊎_elim, arith, append_assoc, append-nil}
-use Rattle.std.specs.Prelude.{All, IfSome, IfNone, IfOk, option_map}
+use Rattle.std.proofs.Common.{◌≡◌, ◌<◌, ◌^◌, ℕ, List, [], length, take, drop, Option, Some, None, refl, sym, ap, subst, ◌∙◌, ⊎_elim, arith, append-nil}
+use Rattle.std.specs.Prelude.{All, IfSome, IfNone}
 use Rattle.std.proofs.lemmas.Bool.{cases_lt}
 use Rattle.std.proofs.lemmas.List.{take-append-drop}
 use Rattle.decomposition.specs.declared.Mode.TheVariants.{Exact}
@@ -16,7 +16,7 @@ use Rattle.flowpaths_cli.specs.declared.settings.Settings.{Settings}
 use Rattle.flowpaths_cli.specs.declared.tally.Tally.{Tally}
 use Rattle.flowpaths_cli.specs.Generated.{IsTallied, AreCounted, IsSolved, EndsSolved, WritesCounts}
 use Rattle.flowpaths_cli.specs.Run.{WhereWritten}
-use Rattle.flowpaths_cli.specs.Tally.{tally_of, lines_of}
+use Rattle.flowpaths_cli.specs.Tally.{lines_of}
 use Rattle.flowpaths_cli.proofs.SolvedGraphs.{all-decided}
 use Rattle.flowpaths_cli.proofs.Tallies.{length-reports}
 

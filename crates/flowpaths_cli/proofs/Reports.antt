@@ -30,7 +30,7 @@ report_is s text block body labels is_handed right are regular =
     IsTrue (is_regular labels (report_on s b body)) → IsReportOf s text (report_on s b body) (text_of labels (report_on s b body)) in
     let here : P (handed s.mode text) = λ right' are' regular'.
     let r = report_on s (handed s.mode text) body in
-    let spelled : IsTextOf labels r (text_of labels r) = record { regular = regular'; spelled = refl } in
+    let spelled : IsTextOf labels r (text_of labels r) = record { regular = regular'; text_is = refl } in
     record {
       index_is = refl;
       name_is = refl;

@@ -1,5 +1,5 @@
 -- Right reports for graphs without runs to be covered: each is of a graph with best paths or an open optimum, and has at least the fewest paths.
-use Rattle.std.proofs.Common.{◌≡◌, ◌≤◌, ◌<◌, ◌+◌, ℕ, suc, List, [], ◌∷◌, length, Bool, true, false, cond, Option, Some, None, Result, Ok, Err, refl, sym, ap, subst, ◌∙◌, arith}
+use Rattle.std.proofs.Common.{◌≡◌, ◌≤◌, ◌+◌, ℕ, List, [], ◌∷◌, length, Bool, true, false, cond, Option, Some, None, Result, Ok, Err, refl, sym, ap, subst, ◌∙◌, arith}
 use Rattle.std.specs.Prelude.{All, IsOkAnd, count_by, sum, sum_by, unwrap_or}
 use Rattle.std.proofs.lemmas.Bool.{true≢false}
 use Rattle.std.proofs.lemmas.List.Elements.{All-head, All-tail}
@@ -7,8 +7,7 @@ use Rattle.std.proofs.lemmas.List.Sums.{sum_by-cons}
 use Rattle.std.proofs.lemmas.Option.{none-some}
 use Rattle.decomposition.specs.declared.Mode.{Mode}
 use Rattle.decomposition.specs.declared.Mode.TheVariants.{Exact}
-use Rattle.decomposition.specs.Graph.{edge_count}
-use Rattle.decomposition.specs.Instance.{Instance, Meets, objective, IsOptimal, IsLowerBound}
+use Rattle.decomposition.specs.Instance.{Instance, Meets, objective, IsOptimal}
 use Rattle.demo_text.specs.Accepted.{IsPlain}
 use Rattle.graph_text.specs.Blocks.{TextBlock}
 use Rattle.graph_text.specs.Reading.{read, instance_of}
@@ -22,9 +21,9 @@ use Rattle.path_report.specs.declared.report.Mark.{Mark}
 use Rattle.path_report.specs.declared.report.Mark.TheVariants.{Optimal, Infeasible, Bounds}
 use Rattle.flowpaths_cli.specs.declared.settings.Settings.{Settings}
 use Rattle.flowpaths_cli.specs.Booking.{AreBookedFor, BookedFit, IsKnownWhereBookedFit}
-use Rattle.flowpaths_cli.specs.Generated.{IsFewest, IsFewestOf, AreFewest}
+use Rattle.flowpaths_cli.specs.Generated.{IsFewest, AreFewest}
 use Rattle.flowpaths_cli.specs.Marks.{is_best_mark, is_best, paths_of}
-use Rattle.flowpaths_cli.specs.Right.{SolvedRight, BodyRight, ArePathsFor, IsMarked, is_open_mark, is_open}
+use Rattle.flowpaths_cli.specs.Right.{BodyRight, ArePathsFor, IsMarked, is_open_mark, is_open}
 use Rattle.flowpaths_cli.specs.Run.{AreReports}
 
 -- where no run must be covered, nothing is booked, and that fits

@@ -1,23 +1,17 @@
 -- How far a run has come: what it took of its input, and what it wrote.
-use Rattle.std.specs.Prelude.{◌≡◌, ◌⊎◌, ◌^◌, ℕ, ◌≤◌, ◌<◌, List, [], ◌∷◌, length, false, Option, Some, None, Result, Ok, Err}
+pub use Rattle.program_runs.specs.Inputs.{IsAtEnd}
+pub use Rattle.program_runs.specs.HandedBlocks.{IsHandedFor, AreHandedFor}
+use Rattle.std.specs.Prelude.{◌≡◌, ◌⊎◌, ◌^◌, ℕ, ◌≤◌, ◌<◌, List, length, false, Option, None, Result, Ok, Err}
 use Rattle.flow_io.specs.Outside.{Selected, Adds, Took}
 use Rattle.flow_io.specs.declared.status.Status.{Status}
 use Rattle.flow_io.specs.declared.status.Status.TheVariants.{Words, Fault, Memory, Long}
-use Rattle.graph_text.specs.Blocks.{TextBlock, IsTextBlock, blocks, complete}
-use Rattle.graph_text.specs.Reader.{StandsFor, handed, mode_of, waiting_of, has_failed, has_finished}
-use Rattle.graph_text.specs.declared.block.Block.{Block}
+use Rattle.graph_text.specs.Blocks.{TextBlock, blocks, complete}
+use Rattle.graph_text.specs.Reader.{StandsFor, mode_of, waiting_of, has_failed, has_finished}
 use Rattle.graph_text.specs.declared.reader.BlockReader.{BlockReader}
-use Rattle.decomposition.specs.declared.Mode.{Mode}
 use Rattle.flowpaths_cli.specs.declared.settings.Settings.{Settings}
 use Rattle.flowpaths_cli.specs.declared.stop.Stop.{Stop}
 use Rattle.flowpaths_cli.specs.declared.stop.Stop.TheVariants.{Memory as OutOfMemory, Fault as Failed}
 use Rattle.flowpaths_cli.specs.Run.{IsDone, IsOutput, IsOutputWith, IsFirstOutput, BeginsOutput}
-
--- nothing is left of the selected input, where the selection is told
-abbrev pub IsAtEnd : Option (Option Selected) → Type 0
-IsAtEnd None = Unit {0}
-IsAtEnd (Some None) = Unit {0}
-IsAtEnd (Some (Some s)) = s.left ≡ []
 
 -- one right report for each of these blocks was written, and this is the status of these reports
 abbrev pub Wrote : Settings → List TextBlock → Status → Option (List ℕ) → Option (List ℕ) → Type 0
@@ -43,16 +37,6 @@ pub record Underway (s : Settings) (reader : BlockReader) (bytes : List ℕ) (st
   pub goes_on : has_finished reader ≡ false
   pub mode_is : mode_of reader ≡ s.mode
   pub wrote : Wrote s (complete bytes) status before now
-
--- the block is handed out for a block of a text
-pub record IsHandedFor (mode : Mode) (block : TextBlock) (handed_out : Block) : Type 0 where
-  pub is_block : IsTextBlock block
-  pub is_handed : handed mode block ≡ handed_out
-
--- the block that waits, if one does, is handed out for the one block of the list; else the list is empty
-abbrev pub AreHandedFor : Mode → List TextBlock → Option Block → Type 0
-AreHandedFor mode texts None = texts ≡ []
-AreHandedFor mode texts (Some block) = (text : TextBlock) × (texts ≡ text ∷ []) × IsHandedFor mode text block
 
 -- the run is between two pieces, after fewer than so many bytes
 abbrev pub IsUnderway : Settings → BlockReader → ℕ → Status → Option (List ℕ) → Type 0

@@ -1,4 +1,7 @@
 -- When a report is right for a block, and the status of a run.
+pub use Rattle.cert_check.specs.Accepted.{CountsPaths}
+pub use Rattle.path_report.specs.BadLines.{IsTextOf}
+pub use Rattle.program_runs.specs.HandedBlocks.{labels_of}
 use Rattle.std.specs.Prelude.{◌≤◌, ◌<◌, ◌≡◌, ◌≢◌, ◌+◌, ◌/◌, ◌↔◌, ℕ, List, [], length, Bool, true, false, if◌then◌else◌, Option, None, Some, is_some, IfSome, Result, Ok, Err, IsSomeAnd, IsTrue, AllPairs}
 use Rattle.std.specs.List.{list_any}
 use Rattle.decomposition.specs.declared.Mode.{Mode}
@@ -15,7 +18,6 @@ use Rattle.decomposition.specs.Certificates.{decision_below, decision_at_all, Is
 use Rattle.flow_io.specs.declared.status.Status.{Status}
 use Rattle.flow_io.specs.declared.status.Status.TheVariants.{Clean, Partial, Refused as SomeRefused}
 use Rattle.graph_text.specs.Blocks.{TextBlock, name_of}
-use Rattle.graph_text.specs.Labels.{LabelLists, empty_labels}
 use Rattle.graph_text.specs.Reading.{read, instance_of}
 use Rattle.graph_text.specs.declared.block.RawGraph.{RawGraph}
 use Rattle.graph_text.specs.declared.refusal.Refusal.{Refusal}
@@ -28,16 +30,10 @@ use Rattle.path_report.specs.declared.report.Mark.TheVariants.{Optimal, Infeasib
 use Rattle.path_report.specs.declared.report.Cert.{Cert}
 use Rattle.path_report.specs.declared.report.Cert.TheVariants.{Zero, Wide, Tree, Cut, Crowd}
 use Rattle.path_report.specs.declared.report.Trail.{Trail}
-use Rattle.path_report.specs.ReportText.{is_mode, is_regular, text_of}
+use Rattle.path_report.specs.ReportText.{is_mode}
 use Rattle.flowpaths_cli.specs.Booking.{IsAtMostFirst, IsKnownWhereBookedFit}
 use Rattle.flowpaths_cli.specs.Numbers.{most_nodes, most_seed}
 use Rattle.flowpaths_cli.specs.declared.settings.Settings.{Settings}
-
--- the models in which the number of paths is to be least
-abbrev pub CountsPaths : Mode → Type 0
-CountsPaths Exact = Unit {0}
-CountsPaths Interval = Unit {0}
-CountsPaths (Abs k) = ⊥
 
 -- the model in which a flow within the ranges may be wanting
 abbrev pub HasRanges : Mode → Type 0
@@ -194,16 +190,6 @@ BodyRight set (Err refusal) (Refused r) = r ≡ refusal
 BodyRight set (Err refusal) (SolvedBody s) = ⊥
 BodyRight set (Ok graph) (Refused r) = ⊥
 BodyRight set (Ok graph) (SolvedBody s) = SolvedRight set (instance_of graph) s
-
--- the labels of a block: those of its graph, or none where it is refused
-abbrev pub labels_of : Result RawGraph Refusal → LabelLists
-labels_of (Ok graph) = graph.labels
-labels_of (Err refusal) = empty_labels
-
--- the text is the text of the report, which is regular for these labels
-pub record IsTextOf (labels : LabelLists) (report : Report) (text : List ℕ) : Type 0 where
-  pub regular : IsTrue (is_regular labels report)
-  pub spelled : text ≡ text_of labels report
 
 -- the report is right for the block under these settings, and the text is its text
 pub record IsReportOf (s : Settings) (block : TextBlock) (report : Report) (text : List ℕ) : Type 0 where

@@ -1,7 +1,8 @@
 -- What a run of the top call took and wrote.
-use Rattle.std.specs.Prelude.{◌≡◌, ◌≢◌, ◌⊎◌, ℕ, ◌-◌, ◌^◌, ◌<◌, ◌≤◌, List, [], ◌∷◌, ◌++◌, length, take, if◌then◌else◌, Option, Some, None, IfSome, codes}
-use Rattle.std.specs.Str.{bytes_eq}
-use Rattle.flow_io.specs.Outside.{Selected, Adds, AddsPrefix}
+pub use Rattle.program_runs.specs.Inputs.{Seen, WhereSeen, left_of, bytes_without, taken, IsDone}
+pub use Rattle.program_runs.specs.Writing.{WhereWritten, Notes}
+pub use Rattle.program_runs.specs.HandedBlocks.{blocks_at}
+use Rattle.std.specs.Prelude.{◌≡◌, ◌≢◌, ℕ, ◌-◌, ◌^◌, ◌<◌, ◌≤◌, List, [], ◌∷◌, ◌++◌, length, take, Some, IfSome, codes}
 use Rattle.flow_io.specs.declared.status.Status.{Status}
 use Rattle.flow_io.specs.declared.status.Status.TheVariants.{Clean, Partial, Refused, Words, Fault, Memory, Long}
 use Rattle.graph_text.specs.Blocks.{TextBlock, blocks, complete}
@@ -9,45 +10,10 @@ use Rattle.path_report.specs.declared.report.Report.{Report}
 use Rattle.flowpaths_cli.specs.Right.{IsReportOf, status_of}
 use Rattle.flowpaths_cli.specs.declared.settings.Settings.{Settings}
 
--- what the inputs tell of a run: the bytes that the named input holds, and what is selected at the end
-pub record Seen : Type 0 where
-  pub held : List ℕ
-  pub last : Option Selected
-
--- P holds of what the inputs tell, if they tell it
-abbrev pub WhereSeen : Option (List ℕ) → Option (Option Selected) → (Seen → Type 0) → Type 0
-WhereSeen None last P = Unit {0}
-WhereSeen (Some held) None P = Unit {0}
-WhereSeen (Some held) (Some last) P = P (record { held = held; last = last })
-
--- the run added a text of which P holds, if the output tells what it holds
-abbrev pub WhereWritten : Option (List ℕ) → Option (List ℕ) → (List ℕ → Type 0) → Type 0
-WhereWritten None after P = Unit {0}
-WhereWritten (Some before) after P = (text : List ℕ) × (after ≡ Some (before ++ text)) × P text
-
--- the bytes left of this input, where it is the selected one
-abbrev pub left_of : List ℕ → Option Selected → Option (List ℕ)
-left_of file None = None
-left_of file (Some s) = if bytes_eq s.name file then Some s.left else None
-
--- the bytes taken: those that are held without those that are left
-abbrev pub bytes_without : List ℕ → Option (List ℕ) → List ℕ
-bytes_without held None = []
-bytes_without held (Some left) = take (length held - length left) held
-
-abbrev pub taken : List ℕ → Seen → List ℕ
-taken file seen = bytes_without seen.held (left_of file seen.last)
-
 -- the input is the selected one, nothing is left of it, and fewer than 2^30 bytes of it were taken
 pub record HasEnded (file : List ℕ) (seen : Seen) : Type 0 where
   pub nothing_left : left_of file seen.last ≡ Some []
   pub short : length (taken file seen) < 2 ^ 30
-
--- the blocks that a cut off run may have reported: all of them where nothing is left, and else the complete ones
-abbrev pub blocks_at : List ℕ → Option (List ℕ) → List TextBlock
-blocks_at bytes None = complete bytes
-blocks_at bytes (Some []) = blocks bytes
-blocks_at bytes (Some (b ∷ left)) = complete bytes
 
 abbrev pub shown : List ℕ → Seen → List TextBlock
 shown file seen = blocks_at (taken file seen) (left_of file seen.last)
@@ -76,16 +42,6 @@ IsFirstOutput s blocks text = (n : ℕ) × IsOutput s (take n blocks) text
 abbrev pub BeginsOutput : Settings → List TextBlock → List ℕ → Type 0
 BeginsOutput s blocks text = (rest : List ℕ) × IsFirstOutput s blocks (text ++ rest)
 
--- the answers after which the input was read to its end
-abbrev pub IsDone : Status → Type 0
-IsDone Clean = Unit {0}
-IsDone Partial = Unit {0}
-IsDone Refused = Unit {0}
-IsDone Words = ⊥
-IsDone Fault = ⊥
-IsDone Memory = ⊥
-IsDone Long = ⊥
-
 -- what a run with this status took of its input
 pub record Reads (s : Settings) (status : Status) (seen : Seen) : Type 0 where
   pub most : status ≢ Memory → length (taken s.file seen) ≤ 2 ^ 30
@@ -111,7 +67,3 @@ note_of Words = codes "usage: flowpaths [--model exact|interval|abs] [--paths K]
 note_of Fault = codes "flowpaths: read or write fault\n"
 note_of Memory = codes "flowpaths: out of memory\n"
 note_of Long = codes "flowpaths: input too long\n"
-
--- the line was added, or a beginning of it where the count of faults rose
-abbrev pub Notes : List ℕ → Option (List ℕ) → Option (List ℕ) → Type 0 → Type 0
-Notes line before after rose = Adds before after line ⊎ (rose × AddsPrefix before after line)

@@ -1,5 +1,5 @@
 //! The top call.
-ghost use Rattle.std.specs.Prelude.{◌≡◌, ◌↔◌, ◌⊎◌, ℕ, ◌≤◌, List, ◌≢◌, is_some, IfSome, IfNone, IsNone};
+ghost use Rattle.std.specs.Prelude.{◌≡◌, ◌⊎◌, ℕ, List, ◌≢◌, is_some, IfSome, IfNone, IsNone};
 ghost use Rattle.flow_io.specs.Outside.{Rose};
 ghost use Rattle.flowpaths_cli.specs.Generated.{EndsSolved, WritesCounts};
 ghost use Rattle.flowpaths_cli.specs.Right.{AreBuilt};

@@ -1,8 +1,6 @@
 //! Searches for few paths, in the models that count them.
 ghost use Rattle.std.specs.Prelude.{◌≡◌, ◌≤◌, ◌+◌, ◌-◌, ◌<◌, length, Some, IfOk, IfSome, IsSomeAnd};
 ghost use Rattle.decomposition.specs.declared.Mode.TheVariants.{Interval};
-ghost use Rattle.decomposition.specs.Certificates.{decision_at_all, decision_below};
-ghost use Rattle.decomposition.specs.Graph.{edge_count};
 ghost use Rattle.decomposition.specs.Instance.{IsInstance, greatest_hi};
 ghost use Rattle.flow_models.specs.Problem.{instance};
 ghost use Rattle.flowpaths_cli.specs.Numbers.{most_nodes};

@@ -1,5 +1,5 @@
 //! What an exact graph is answered.
-ghost use Rattle.std.specs.Prelude.{◌≡◌, ◌≤◌, ◌<◌, ◌^◌, length, slice_index, All, is_some, map, IfOk, IfSome, IsTrue};
+ghost use Rattle.std.specs.Prelude.{◌≡◌, ◌≤◌, ◌<◌, ◌^◌, length, slice_index, All, is_some, IfOk, IfSome, IsTrue};
 ghost use Rattle.std.specs.List.{list_all};
 ghost use Rattle.decomposition.specs.declared.Mode.TheVariants.{Exact};
 ghost use Rattle.decomposition.specs.Flow.{IsBalanced};

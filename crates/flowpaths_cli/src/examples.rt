@@ -1,5 +1,5 @@
 //! The words at worked examples, which the check computes.
-ghost use Rattle.std.specs.Prelude.{◌≡◌, List, [], ◌∷◌, codes, IsNone};
+ghost use Rattle.std.specs.Prelude.{◌≡◌, [], ◌∷◌, codes, IsNone};
 ghost use Rattle.flowpaths_cli.specs.Words.{settings_of};
 ghost use Rattle.decomposition.specs.declared.Mode.TheVariants.{Interval, Abs};
 ghost use Rattle.flowpaths_cli.specs.Examples.{naming, naming_safely, naming_in, generating};

@@ -1,7 +1,6 @@
 //! The run over a generated text, which writes four lines on all of its graphs.
 ghost use Rattle.std.specs.Prelude.{◌≡◌, ◌<◌, ◌≤◌, ◌^◌, List, ◌∷◌, [], ◌++◌, ℕ, length, IfOk, IfSome, OnOk};
 ghost use Rattle.decomposition.specs.declared.Mode.TheVariants.{Exact};
-ghost use Rattle.demo_text.specs.Demo.{demo_text};
 ghost use Rattle.flow_io.specs.Outside.{Rose};
 ghost use Rattle.graph_text.specs.Blocks.{TextBlock, blocks};
 ghost use Rattle.graph_text.specs.Reader.{waiting_of, IsTaken};

@@ -1,5 +1,5 @@
 //! What a graph whose weights have errors is answered.
-ghost use Rattle.std.specs.Prelude.{◌≡◌, ◌≤◌, ◌<◌, ◌^◌, ℕ, false, length, None, IfOk};
+ghost use Rattle.std.specs.Prelude.{◌≡◌, ◌≤◌, ◌<◌, ℕ, false, length, None, IfOk};
 ghost use Rattle.decomposition.specs.declared.Mode.TheVariants.{Abs};
 ghost use Rattle.decomposition.specs.Instance.{Instance, IsInstance, error, greatest_hi};
 ghost use Rattle.flow_models.specs.Problem.{instance};

@@ -1,8 +1,8 @@
 //! Flows within ranges that are at least given numbers, and room for booked paths.
-ghost use Rattle.std.specs.Prelude.{◌≡◌, ◌≤◌, ◌<◌, ◌==◌, ◌&&◌, nat_le, ◌^◌, ℕ, List, length, slice_index, IfOk, IsTrue, MatchOption};
+ghost use Rattle.std.specs.Prelude.{◌≡◌, ◌≤◌, ◌<◌, ◌==◌, ◌&&◌, nat_le, length, IfOk, IsTrue, MatchOption};
 ghost use Rattle.std.specs.List.{list_all};
-ghost use Rattle.decomposition.specs.Answer.{IsAnswer, weight_on};
-ghost use Rattle.decomposition.specs.Graph.{Graph, edge_count};
+ghost use Rattle.decomposition.specs.Answer.{IsAnswer};
+ghost use Rattle.decomposition.specs.Graph.{edge_count};
 ghost use Rattle.flowpaths_cli.specs.Right.{NothingIsWithin};
 ghost use Rattle.flowpaths_cli.specs.Room.{HasRoomFor, HasNoRoomFor, HasNoneAbove, IsFlowAbove, AreRaised, IsPassed, IsFlowIn, ranged};
 

@@ -1,5 +1,5 @@
 //! The counts of what is said of the graphs of a text, and the lines that tell them.
-ghost use Rattle.std.specs.Prelude.{◌≡◌, ◌≤◌, ◌<◌, ◌*◌, ◌^◌, List, [], ◌∷◌, ◌++◌, IfOk, string_bytes};
+ghost use Rattle.std.specs.Prelude.{◌≡◌, ◌≤◌, ◌<◌, List, [], ◌∷◌, ◌++◌, IfOk, string_bytes};
 ghost use Rattle.path_report.specs.declared.report.Report.{Report as AReport};
 ghost use Rattle.flowpaths_cli.specs.Marks.{paths_of};
 

@@ -1,5 +1,5 @@
 //! The constraints of a block while its lines come.
-ghost use Rattle.std.specs.Prelude.{◌≡◌, ℕ, ◌<◌, ◌≤◌, true, false, List, [], ◌∷◌, length, map, IfOk, MatchOption, MatchResult, Some, None};
+ghost use Rattle.std.specs.Prelude.{◌≡◌, ℕ, ◌<◌, true, false, List, [], map, IfOk, MatchOption, MatchResult, Some, None};
 ghost use Rattle.std.specs.Borrow.{Bor};
 ghost use Rattle.graph_text.specs.Lines.{fields_of, are_run_fields};
 ghost use Rattle.graph_text.specs.LineFaults.{fault_of_list, fault_of_run};

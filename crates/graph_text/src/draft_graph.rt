@@ -1,5 +1,5 @@
 //! The graph of a block while its edge lines come.
-ghost use Rattle.std.specs.Prelude.{◌≡◌, ℕ, ◌<◌, ◌≤◌, ◌*◌, ◌==◌, ◌↔◌, false, List, [], ◌∷◌, ◌++◌, length, take, map, slice_index, vec_len, AllPairs, MatchResult, All, IsTrue, IfOk, None};
+ghost use Rattle.std.specs.Prelude.{◌≡◌, ◌<◌, ◌≤◌, ◌*◌, ◌==◌, ◌↔◌, false, List, [], ◌∷◌, ◌++◌, length, take, map, slice_index, vec_len, AllPairs, MatchResult, All, IsTrue, IfOk, None};
 ghost use Rattle.std.specs.List.{list_any};
 ghost use Rattle.std.specs.Vec.{vec_allocator};
 ghost use Rattle.decomposition.specs.declared.Mode.{Mode as Model};

@@ -1,5 +1,5 @@
 //! The definitions at worked examples, which the check computes.
-ghost use Rattle.std.specs.Prelude.{◌≡◌, ◌++◌, codes, [], ◌∷◌, List, Ok, Err, map, replicate};
+ghost use Rattle.std.specs.Prelude.{◌≡◌, ◌++◌, codes, [], ◌∷◌, Ok, Err, map, replicate};
 ghost use Rattle.decomposition.specs.Graph.{graph_of};
 ghost use Rattle.decomposition.specs.declared.Mode.TheVariants.{Exact, Interval};
 ghost use Rattle.graph_text.specs.Lines.{lines_of, fields_of};

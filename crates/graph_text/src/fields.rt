@@ -1,5 +1,5 @@
 //! The fields of a line, and what a line shows by its first bytes.
-ghost use Rattle.std.specs.Prelude.{◌≡◌, ◌<◌, ◌&&◌, List, ℕ, true, false, length, drop, map, nat_le, if◌then◌else◌, Some, None, IfOk};
+ghost use Rattle.std.specs.Prelude.{◌≡◌, ◌<◌, ◌&&◌, List, ℕ, false, length, drop, map, nat_le, if◌then◌else◌, Some, None, IfOk};
 ghost use Rattle.std.specs.Borrow.{Bor};
 ghost use Rattle.std.specs.List.{take_while};
 ghost use Rattle.graph_text.specs.Lines.{is_blank, fields_of, are_no_fields, are_hash_fields, are_run_fields};

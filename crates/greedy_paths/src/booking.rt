@@ -8,11 +8,10 @@ ghost use Rattle.decomposition.specs.FirstAnswer.{IsBookedPath};
 ghost use Rattle.greedy_paths.specs.Greatest.{AreGreatest};
 ghost use Rattle.greedy_paths.specs.Booking.{AreEdgesAt, AreEdges, ComesFromSource, GoesToSink, AreBooked};
 
-use crate::contained::is_contained;
 use crate::greatest::{GreatestEdges, greatest_edges};
 use dag_net::{Answer, Ids, Net};
 use std::alloc::{AllocError, Global};
-use subpath_rules::Rules;
+use subpath_rules::{Rules, is_covered};
 
 /// The edges from a source to `v`, each the one listed for its head.
 fn edges_back(
@@ -102,7 +101,7 @@ pub fn book(alloc: Global, net: &Net, guide: &[u64], rules: &Rules) -> Result<An
     let mut booked = Answer::new(alloc);
     for i in 0..rules.len() {
         let run = rules.run(i);
-        if !is_contained(run, &booked) {
+        if !is_covered(run, &booked) {
             booked.push(booked_path(alloc, net, &greatest, run)?, 1)?;
         }
     }

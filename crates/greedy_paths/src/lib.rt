@@ -7,7 +7,6 @@ pub use units::{add_along, units_on};
 pub use widest::widest_path;
 
 mod booking;
-mod contained;
 mod greatest;
 mod greedy;
 pub mod laws;

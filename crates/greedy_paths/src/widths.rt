@@ -1,6 +1,6 @@
 //! How wide the walks from each vertex to a sink can be.
 
-ghost use Rattle.std.specs.Prelude.{◌≡◌, ℕ, ◌<◌, length, slice_index, IfOk};
+ghost use Rattle.std.specs.Prelude.{◌≡◌, ◌<◌, length, slice_index, IfOk};
 ghost use Rattle.decomposition.specs.Graph.{edge_count};
 ghost use Rattle.greedy_paths.specs.Widths.{IsWidthFrom, HeadsHaveWidths, AreWidths};
 

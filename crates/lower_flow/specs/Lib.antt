@@ -1,4 +1,3 @@
-pub mod Entering
 pub mod Residual
 pub mod Search
 pub mod Found

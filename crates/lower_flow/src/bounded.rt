@@ -12,9 +12,8 @@ ghost use Rattle.decomposition.specs.Graph.{edge_count};
 ghost use Rattle.lower_flow.specs.Found.{IsFlowOrCut};
 
 use crate::clearing::clear;
-use crate::entering::link;
 use crate::found::FlowOrCut;
-use dag_net::{Net, Numbers, Range};
+use dag_net::{Entering, Net, Numbers, Range};
 use decomposition::Side;
 use std::alloc::{AllocError, Global};
 
@@ -52,7 +51,7 @@ pub fn bounded_flow(alloc: Global, net: &Net, ranges: &[Range]) -> Result<FlowOr
     requires bounded { IsTrue (list_all (λ r. nat_le r.lo r.hi && nat_le r.hi 1000000000000) ranges.now) }
     ensures { IfOk result (IsFlowOrCut net.now ranges.now) }
 {
-    let entering = link(alloc, net)?;
+    let entering = Entering::of(alloc, net)?;
     let mut flow = lower_bounds(alloc, ranges)?;
     if let Some(cut) = clear(alloc, net, &entering, ranges, &mut flow, Side::Entering)? {
         return Ok(FlowOrCut::InCut(cut));

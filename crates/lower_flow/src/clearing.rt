@@ -1,19 +1,18 @@
 //! Sends what vertices have too much on to others, or finds the cut that shows that this cannot be done.
 
-ghost use Rattle.std.specs.Prelude.{◌≡◌, ◌<◌, ◌≤◌, ℕ, nat_lt, length, vec_len, slice_index, IsTrue, IfOk, IfNone, IfSome, OnOk};
-ghost use Rattle.decomposition.specs.Graph.{edge_count, IsNet};
+ghost use Rattle.std.specs.Prelude.{◌≡◌, ◌<◌, ◌≤◌, ℕ, nat_lt, length, slice_index, IsTrue, IfOk, IfNone, IfSome, OnOk};
+ghost use Rattle.decomposition.specs.Graph.{IsNet};
 ghost use Rattle.decomposition.specs.Answer.{is_ordered};
 ghost use Rattle.decomposition.specs.Certificates.{IsCut};
-ghost use Rattle.lower_flow.specs.Entering.{EnterFrom};
+ghost use Rattle.dag_net.specs.Entering.{EnterFrom};
 ghost use Rattle.lower_flow.specs.Residual.{deficit, IsCleared, IsRanged, residual};
 ghost use Rattle.lower_flow.specs.Search.{IsSearch, IsTarget};
 ghost use Rattle.lower_flow.specs.Found.{with_ranges};
 ghost use Rattle.lower_flow.specs.Clearing.{IsSent, AreMarked};
 
 use crate::ends::{far, room_above, room_below};
-use crate::entering::Entering;
 use crate::search::{Search, Target};
-use dag_net::{Ids, Net, Range};
+use dag_net::{Entering, Ids, Net, Range};
 use decomposition::Side;
 use std::alloc::{AllocError, Global};
 

@@ -7,7 +7,6 @@ pub use found::FlowOrCut;
 mod bounded;
 mod clearing;
 mod ends;
-mod entering;
 mod found;
 mod search;
 mod sums;

@@ -1,15 +1,14 @@
 //! A breadth first search from the vertices that have too much, over edges with room, to a vertex that takes up some of it.
 
-ghost use Rattle.std.specs.Prelude.{◌≡◌, ◌<◌, ◌⊎◌, ℕ, None, length, vec_len, slice_index, IsTrue, IfOk, OnOk};
+ghost use Rattle.std.specs.Prelude.{◌≡◌, ◌<◌, ◌⊎◌, ℕ, None, vec_len, slice_index, IsTrue, IfOk, OnOk};
 ghost use Rattle.decomposition.specs.Graph.{edge_count, tail, head};
-ghost use Rattle.lower_flow.specs.Entering.{EnterFrom};
+ghost use Rattle.dag_net.specs.Entering.{EnterFrom};
 ghost use Rattle.lower_flow.specs.Residual.{near, far, AreSumsAt, IsRanged, residual};
 ghost use Rattle.lower_flow.specs.Search.{is_set, entry_at, IsSearch, Enters, Grows, IsFollowed, IsVisited, AreStarted, EndsAt};
 
 use crate::ends::step_over;
-use crate::entering::Entering;
 use crate::sums::{Sums, sum_flow};
-use dag_net::{Net, Range};
+use dag_net::{Entering, Net, Range};
 use decomposition::Side;
 use std::alloc::{AllocError, Global};
 

@@ -7,7 +7,8 @@ use Rattle.decomposition.proofs.Walks.{edge_into, edge_out_of}
 use Rattle.decomposition.proofs.Nets.{inside-from_net}
 use Rattle.dag_net.specs.Chain.{IsFirstOut}
 use Rattle.path_cover.specs.Carrying.{least_flow, IsBalancedBut, IsMore, IsSentOn, IsBroughtIn}
-use Rattle.path_cover.specs.Entering.{IsFirstInto, IsEdgeOut, IsEdgeInto}
+use Rattle.dag_net.specs.Entering.{IsFirstInto}
+use Rattle.path_cover.specs.GoingOn.{IsEdgeOut, IsEdgeInto}
 use Rattle.path_cover.proofs.Moves.{IsRaised, raise-onward, raise-back, IsBalancedBut-same, IsBalanced-from_but, source-outer, sink-outer}
 use Rattle.path_cover.proofs.Depth.{depth, depth-le, depth-rises}
 

@@ -1,5 +1,5 @@
 pub mod Carrying
-pub mod Entering
+pub mod GoingOn
 pub mod Cut
 pub mod Load
 pub mod Search

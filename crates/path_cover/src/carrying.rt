@@ -1,15 +1,14 @@
 //! A first flow that carries every needed edge: a path through each that no earlier path has.
 
-ghost use Rattle.std.specs.Prelude.{◌≡◌, ℕ, ◌+◌, ◌*◌, ◌<◌, ◌≤◌, ◌^◌, length, slice_index, vec_len, IfOk};
+ghost use Rattle.std.specs.Prelude.{◌≡◌, ℕ, ◌+◌, ◌<◌, ◌≤◌, ◌^◌, length, slice_index, IfOk};
 ghost use Rattle.decomposition.specs.Graph.{edge_count, tail, head, IsNet};
 ghost use Rattle.decomposition.specs.Flow.{IsBalanced};
 ghost use Rattle.path_cover.specs.Carrying.{least_flow, IsCarrying, most_at_first, IsMore, IsSentOn, IsBroughtIn};
-ghost use Rattle.path_cover.specs.Entering.{EnterFrom};
+ghost use Rattle.dag_net.specs.Entering.{EnterFrom};
 ghost use Rattle.path_cover.specs.Search.{is_set};
 
-use crate::entering::Entering;
 use crate::ways::{edge_back, edge_onward};
-use dag_net::Net;
+use dag_net::{Entering, Net};
 use std::alloc::{AllocError, Global};
 
 /// Sends one unit more from `v` on to a sink.

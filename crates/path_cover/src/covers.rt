@@ -1,6 +1,6 @@
 //! The width of needed edges, by a flow that carries them with as little as can be.
 
-ghost use Rattle.std.specs.Prelude.{◌≡◌, ◌<◌, ℕ, ◌&&◌, nat_lt, length, slice_index_or, false, IsTrue, IfOk};
+ghost use Rattle.std.specs.Prelude.{◌≡◌, ◌<◌, ◌&&◌, nat_lt, length, slice_index_or, false, IsTrue, IfOk};
 ghost use Rattle.decomposition.specs.Graph.{edge_count};
 ghost use Rattle.decomposition.specs.Answer.{is_ordered};
 ghost use Rattle.decomposition.specs.Width.{IsPathCover, IsAntichainOf};
@@ -8,11 +8,10 @@ ghost use Rattle.path_cover.specs.Cut.{leaves, AreThose};
 ghost use Rattle.path_cover.specs.Search.{is_set};
 
 use crate::carrying::first_flow;
-use crate::entering::link;
 use crate::found::Width;
 use crate::lessening::lessen;
 use crate::splitting::split;
-use dag_net::{Ids, Net};
+use dag_net::{Entering, Ids, Net};
 use std::alloc::{AllocError, Global};
 
 /// Whether the edge is needed and leaves the marked vertices.
@@ -48,7 +47,7 @@ pub fn width(alloc: Global, net: &Net, needed: &[bool]) -> Result<Width, AllocEr
     ensures equal { IfOk result (λ width. length width.cover ≡ length width.antichain) }
     ensures rising { IfOk result (λ width. IsTrue (is_ordered nat_lt width.antichain)) }
 {
-    let entering = link(alloc, net)?;
+    let entering = Entering::of(alloc, net)?;
     let mut flow = first_flow(alloc, net, &entering, needed)?;
     let marked = lessen(alloc, net, &entering, needed, &mut flow)?;
     let antichain = leaving(alloc, net, needed, &marked)?;

@@ -4,12 +4,11 @@ ghost use Rattle.std.specs.Prelude.{◌≡◌, ℕ, ◌+◌, ◌<◌, ◌≤◌,
 ghost use Rattle.decomposition.specs.Graph.{edge_count, is_sink, IsNet};
 ghost use Rattle.path_cover.specs.Carrying.{IsCarrying, most_at_first, arriving};
 ghost use Rattle.path_cover.specs.Cut.{IsClosed};
-ghost use Rattle.path_cover.specs.Entering.{EnterFrom};
+ghost use Rattle.dag_net.specs.Entering.{EnterFrom};
 ghost use Rattle.path_cover.specs.Search.{is_set, entry_at, IsSearch};
 
-use crate::entering::Entering;
 use crate::search::{Search, can_spare};
-use dag_net::Net;
+use dag_net::{Entering, Net};
 use std::alloc::{AllocError, Global};
 
 /// Takes one unit off the way to the entry at place `last`, a sink.

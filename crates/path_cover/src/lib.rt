@@ -6,7 +6,6 @@ pub use found::Width;
 
 mod carrying;
 mod covers;
-mod entering;
 mod found;
 mod lessening;
 mod search;

@@ -1,13 +1,12 @@
 //! A search from the sources for a way along which one unit less may flow.
 
-ghost use Rattle.std.specs.Prelude.{◌≡◌, ◌≢◌, ◌⊎◌, ℕ, ◌<◌, ◌≤◌, ◌↔◌, ◌++◌, ◌∷◌, [], None, Some, true, false, not, cond, length, vec_len, slice_index, slice_set, IsTrue, IfOk, OnOk, MatchOption};
+ghost use Rattle.std.specs.Prelude.{◌≡◌, ◌⊎◌, ℕ, ◌<◌, ◌↔◌, None, Some, true, false, not, length, vec_len, slice_index, IsTrue, IfOk, OnOk};
 ghost use Rattle.decomposition.specs.Graph.{edge_count, tail, head, is_source, is_sink};
 ghost use Rattle.path_cover.specs.Carrying.{least_flow};
-ghost use Rattle.path_cover.specs.Entering.{EnterFrom};
+ghost use Rattle.dag_net.specs.Entering.{EnterFrom};
 ghost use Rattle.path_cover.specs.Search.{is_set, entry_at, IsSearch, IsBegun, Enters, Grows, IsFollowed, IsVisited, AreSourcesMarked, EndsAt};
 
-use crate::entering::Entering;
-use dag_net::Net;
+use dag_net::{Entering, Net};
 use std::alloc::{AllocError, Global};
 
 /// A vertex that the search has reached: a source, or by an edge from the entry at an earlier place.

@@ -2,10 +2,10 @@
 
 ghost use Rattle.std.specs.Prelude.{◌≡◌, ◌<◌, length};
 ghost use Rattle.decomposition.specs.Graph.{edge_count};
-ghost use Rattle.path_cover.specs.Entering.{EnterFrom, IsEdgeOut, IsEdgeInto};
+ghost use Rattle.dag_net.specs.Entering.{EnterFrom};
+ghost use Rattle.path_cover.specs.GoingOn.{IsEdgeOut, IsEdgeInto};
 
-use crate::entering::Entering;
-use dag_net::Net;
+use dag_net::{Entering, Net};
 
 /// An edge that leaves `v`: the first that is needed and has no flow, or else the first.
 pub fn edge_onward(net: &Net, needed: &[bool], flow: &[u64], v: u32) -> Option<u32>

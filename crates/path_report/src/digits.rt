@@ -1,5 +1,5 @@
 //! The digits of a number.
-ghost use Rattle.std.specs.Prelude.{◌≡◌, decimal};
+ghost use Rattle.std.specs.Prelude.{◌≡◌, ◌≤◌, decimal, length};
 
 use std::marker::Model;
 
@@ -21,6 +21,7 @@ impl Model for Digits {
 }
 
 impl Digits {
+    /// The digits of a number. Takes no memory.
     pub fn of(number: u64) -> Digits
         ensures { result ≡ decimal number }
     {
@@ -38,7 +39,8 @@ impl Digits {
     }
 
     pub fn as_slice(&self) -> &[u8]
-        ensures { result.now ≡ self.now }
+        ensures digits { result.now ≡ self.now }
+        ensures few { length result.now ≤ 20 }
     {
         &self.bytes[self.start..]
     }

@@ -27,6 +27,7 @@ mod words;
 mod writer;
 
 pub use decomposition::{Decision, Side, Token};
+pub use digits::Digits;
 pub use read_fault::{ReadFault, ReadRefusal, ReadWhy};
 pub use reader::read_report;
 pub use report::{Body, Cert, Mark, Report, Solved, Trail};

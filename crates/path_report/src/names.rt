@@ -1,6 +1,6 @@
 //! The vertices and the edges that a line names.
 ghost use Rattle.std.specs.Prelude.{◌≡◌, IfOk};
-ghost use Rattle.path_report.specs.LineFields.{texts, vertex_in, edge_in, edges_in};
+ghost use Rattle.path_report.specs.LineFields.{texts, edge_in, edges_in};
 
 use crate::fields::field_at;
 use dag_net::Ids;

@@ -1,5 +1,5 @@
 //! What each line of a report text gives to a draft.
-ghost use Rattle.std.specs.Prelude.{◌≡◌, ◌-◌, codes, Ok, OnOk, IfErr};
+ghost use Rattle.std.specs.Prelude.{◌≡◌, ◌-◌, Ok, OnOk, IfErr};
 ghost use Rattle.path_report.specs.LineFields.{texts, spaced_fields};
 ghost use Rattle.path_report.specs.LineSteps.{graph_step, model_step, third_step, lower_step, upper_step, end_step, FaultsAs};
 ghost use Rattle.path_report.specs.ListSteps.{after_cert, before_items, before_tokens, before_runs, cert_step, path_or_cert_step, item_step, trail_step, trail_token_step, safe_or_end_step, run_step};

@@ -1,7 +1,6 @@
 //! Where the maximal safe runs stand in the paths of an answer.
 
-ghost use Rattle.std.specs.Prelude.{◌≡◌, ◌+◌, ◌<◌, ◌≤◌, length, slice_index, IfOk, OnOk};
-ghost use Rattle.decomposition.specs.Graph.{IsNet};
+ghost use Rattle.std.specs.Prelude.{◌+◌, ◌<◌, length, slice_index, IfOk, OnOk};
 ghost use Rattle.decomposition.specs.SafeRuns.{IsSafeFor, IsMaximal};
 ghost use Rattle.safe_paths.specs.Windows.{IsSearched};
 ghost use Rattle.safe_paths.specs.Places.{Finds};

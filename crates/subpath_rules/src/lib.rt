@@ -2,6 +2,7 @@
 #![tactic(auto)]
 
 pub use rules::{RuleFault, Rules};
+pub use standing::is_covered;
 
 mod follows;
 pub mod laws;

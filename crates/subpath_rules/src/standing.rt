@@ -13,7 +13,8 @@ fn begins_with_run(path: &[u32], run: &[u32]) -> bool
     path.starts_with(run)
 }
 
-/// Whether the run stands in the path, entry after entry.
+/// Whether the run stands in the path, entry after entry. A path of a net has each edge once, so at most one
+/// comparison gets past its first entry.
 fn stands_in(run: &[u32], path: &[u32]) -> bool
     ensures { result ≡ contains_run path.now run.now }
 {
@@ -25,7 +26,7 @@ fn stands_in(run: &[u32], path: &[u32]) -> bool
     run.is_empty()
 }
 
-/// Whether some path of the answer contains the run.
+/// Whether some path of the answer contains the run. Costs steps in the total length of the paths and of the run.
 pub fn is_covered(run: &[u32], answer: &Answer) -> bool
     ensures { result ≡ list_any (λ entry. contains_run entry.0 run.now) answer.now }
 {

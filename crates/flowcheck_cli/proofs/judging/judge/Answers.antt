@@ -2,7 +2,7 @@ use Rattle.std.proofs.Common.{◌≤◌, subst, sym, ap, ◌+◌, arith, length}
 use Rattle.path_report.specs.BadLines.{first_bad_line, RefusesAs}
 use Rattle.path_report.specs.declared.read_fault.ReadRefusal.{ReadRefusal}
 use Rattle.flowcheck_cli.proofs.BadPlaces.{bad-place}
-use Rattle.flowcheck_cli.specs.Handed.{labels_of}
+use Rattle.program_runs.specs.HandedBlocks.{labels_of}
 use Rattle.flowcheck_cli.specs.Outcomes.{IsBlockOutcome}
 use Rattle.graph_text.specs.declared.block.Block.{Block}
 use Rattle.flowcheck_cli.proofs.Judged.{handed-accepted, outcome-of-verdict}

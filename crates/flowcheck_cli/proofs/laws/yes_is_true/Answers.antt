@@ -6,7 +6,7 @@ use Rattle.graph_text.specs.declared.refusal.Refusal.{Refusal}
 use Rattle.graph_text.proofs.Accepting.{graphs_are_accepted}
 use Rattle.path_report.specs.BadLines.{IsTextOf}
 use Rattle.cert_check.proofs.TrueReports.{body_is_true}
-use Rattle.flowcheck_cli.specs.Handed.{labels_of}
+use Rattle.program_runs.specs.HandedBlocks.{labels_of}
 use Rattle.flowcheck_cli.specs.Outcomes.{IsRightBody}
 use Rattle.flowcheck_cli.proofs.laws.yes_is_true.Goals as goal
 

@@ -1,8 +1,8 @@
-use Rattle.std.proofs.Common.{◌≡◌, ◌-◌, ◌+◌, ◌<◌, ◌≤◌, [], length, take, drop, sym, ap, subst, ◌∙◌, arith, length-drop}
+use Rattle.std.proofs.Common.{◌≡◌, ◌-◌, [], length, take, drop, ap, subst, ◌∙◌, arith, length-drop}
 use Rattle.std.proofs.lemmas.List.{length-take-le, take_all, take_rest}
-use Rattle.graph_text.specs.Blocks.{blocks, complete}
-use Rattle.flowpaths_cli.specs.Generated.{IsTallied, Counting, AreTallied}
-use Rattle.flowpaths_cli.proofs.Underways.{handed-some, grows-feed, grows-end, feeds-some, line-within, parts-more}
+use Rattle.graph_text.specs.Blocks.{complete}
+use Rattle.flowpaths_cli.specs.Generated.{Counting}
+use Rattle.flowpaths_cli.proofs.Underways.{handed-some, grows-feed, feeds-some, line-within, parts-more}
 use Rattle.flowpaths_cli.proofs.Countings.{as-underway, counting-more, few-in-part}
 use Rattle.flowpaths_cli.proofs.generated.tally_pieces.Goals as goal
 

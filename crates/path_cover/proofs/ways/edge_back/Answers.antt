@@ -2,7 +2,7 @@ use Rattle.std.proofs.Common.{◌+◌, ◌-◌, ◌<◌, ℕ, None, subst, sym, 
 use Rattle.std.specs.Option.{option_map_or}
 use Rattle.std.proofs.lemmas.List.{get_or_read}
 use Rattle.decomposition.specs.Graph.{edge_count, head}
-use Rattle.path_cover.specs.Entering.{IsFirstInto}
+use Rattle.dag_net.specs.Entering.{IsFirstInto}
 use Rattle.path_cover.proofs.Searching.{cursor-falls}
 use Rattle.path_cover.proofs.Sending.{IsOneInto-first, IsEdgeInto-first}
 use Rattle.path_cover.proofs.ways.edge_back.Goals as goal

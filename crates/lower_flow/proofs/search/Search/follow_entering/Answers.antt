@@ -2,7 +2,7 @@ use Rattle.std.proofs.Common.{◌+◌, ◌-◌, ◌<◌, ℕ, None, length, slic
 use Rattle.std.specs.Option.{option_map_or}
 use Rattle.std.proofs.lemmas.List.{get_or_read}
 use Rattle.decomposition.specs.Graph.{edge_count, head}
-use Rattle.lower_flow.specs.Entering.{IsFirstInto}
+use Rattle.dag_net.specs.Entering.{IsFirstInto}
 use Rattle.lower_flow.specs.Residual.{residual}
 use Rattle.lower_flow.specs.Search.{entry_at, IsFollowed}
 use Rattle.lower_flow.specs.declared.search.Reached.{Reached}

@@ -2,7 +2,7 @@ use Rattle.std.proofs.Common.{◌+◌, ◌-◌, ◌<◌, ℕ, None, length, slic
 use Rattle.std.specs.Option.{option_map_or}
 use Rattle.std.proofs.lemmas.List.{get_or_read}
 use Rattle.decomposition.specs.Graph.{edge_count, head}
-use Rattle.path_cover.specs.Entering.{IsFirstInto}
+use Rattle.dag_net.specs.Entering.{IsFirstInto}
 use Rattle.path_cover.specs.Search.{is_set, entry_at, IsFollowed}
 use Rattle.path_cover.specs.declared.search.Reached.{Reached}
 use Rattle.path_cover.proofs.Searching.{entry-read, Follows-start, Follows-more, cursor-falls, vertex-below}

@@ -1,5 +1,5 @@
-use Rattle.path_cover.specs.Entering.{EnterFrom}
-use Rattle.path_cover.proofs.entering.link.Given as goal
+use Rattle.dag_net.specs.Entering.{EnterFrom}
+use Rattle.dag_net.proofs.entering.Entering.of.Given as goal
 
 abbrev pub invariant-loop-e : goal.invariant-loop-e
 invariant-loop-e l = EnterFrom l.net l.e l.first.items l.next.items

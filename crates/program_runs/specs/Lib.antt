@@ -1,0 +1,3 @@
+pub mod Inputs
+pub mod Writing
+pub mod HandedBlocks
