@@ -12,7 +12,7 @@ returns-in_err-line-clause-err g c =
     let name = name_at c.args.labels.now in
     let tail = c.name-tail.ensures.name ∙ ap name c.tail.ensures.tail in
     let head = c.name-head.ensures.name ∙ ap name c.head.ensures.head in
-    let fields = crowd_line-fields c.args.labels.now c.args.e (length c.args.rules.now) tail head (c.as_slice.ensures ∙ c.of-count.ensures) in
+    let fields = crowd_line-fields c.args.labels.now c.args.e (length c.args.rules.now) tail head (c.as_slice.ensures.digits ∙ c.of-count.ensures) in
     on_err c.from_residual.result
     (Stops-before (flat_map rule_line c.args.rules.now) (Stops-equal fields c.in_err-line.ensures.err))
 
@@ -21,7 +21,7 @@ returns-clause-ok g c =
     let name = name_at c.args.labels.now in
     let tail = c.name-tail.ensures.name ∙ ap name c.tail.ensures.tail in
     let head = c.name-head.ensures.name ∙ ap name c.head.ensures.head in
-    let fields = crowd_line-fields c.args.labels.now c.args.e (length c.args.rules.now) tail head (c.as_slice.ensures ∙ c.of-count.ensures) in
+    let fields = crowd_line-fields c.args.labels.now c.args.e (length c.args.rules.now) tail head (c.as_slice.ensures.digits ∙ c.of-count.ensures) in
     on_ok_weaker c.put_rules.result (Sends-then (Sends-equal fields c.in_ok-line.ensures.ok)) c.put_rules.ensures.ok
 
 pub returns-clause-err : goal.returns-clause-err
@@ -29,5 +29,5 @@ returns-clause-err g c =
     let name = name_at c.args.labels.now in
     let tail = c.name-tail.ensures.name ∙ ap name c.tail.ensures.tail in
     let head = c.name-head.ensures.name ∙ ap name c.head.ensures.head in
-    let fields = crowd_line-fields c.args.labels.now c.args.e (length c.args.rules.now) tail head (c.as_slice.ensures ∙ c.of-count.ensures) in
+    let fields = crowd_line-fields c.args.labels.now c.args.e (length c.args.rules.now) tail head (c.as_slice.ensures.digits ∙ c.of-count.ensures) in
     on_err_weaker c.put_rules.result (Stops-then (Sends-equal fields c.in_ok-line.ensures.ok)) c.put_rules.ensures.err

@@ -16,16 +16,16 @@ put_vertices-requires g c =
 
 pub returns-in_err-line-clause-err : goal.returns-in_err-line-clause-err
 returns-in_err-line-clause-err g c =
-    let fields = cut_line-fields c.args.side (length c.args.vertices.now) c.word_of_side.ensures (c.as_slice.ensures ∙ c.of-count.ensures) in
+    let fields = cut_line-fields c.args.side (length c.args.vertices.now) c.word_of_side.ensures (c.as_slice.ensures.digits ∙ c.of-count.ensures) in
     on_err c.from_residual.result
     (Stops-before (flat_map (vertex_line c.args.labels.now) c.args.vertices.now) (Stops-equal fields c.in_err-line.ensures.err))
 
 pub returns-clause-ok : goal.returns-clause-ok
 returns-clause-ok g c =
-    let fields = cut_line-fields c.args.side (length c.args.vertices.now) c.word_of_side.ensures (c.as_slice.ensures ∙ c.of-count.ensures) in
+    let fields = cut_line-fields c.args.side (length c.args.vertices.now) c.word_of_side.ensures (c.as_slice.ensures.digits ∙ c.of-count.ensures) in
     on_ok_weaker c.put_vertices.result (Sends-then (Sends-equal fields c.in_ok-line.ensures.ok)) c.put_vertices.ensures.ok
 
 pub returns-clause-err : goal.returns-clause-err
 returns-clause-err g c =
-    let fields = cut_line-fields c.args.side (length c.args.vertices.now) c.word_of_side.ensures (c.as_slice.ensures ∙ c.of-count.ensures) in
+    let fields = cut_line-fields c.args.side (length c.args.vertices.now) c.word_of_side.ensures (c.as_slice.ensures.digits ∙ c.of-count.ensures) in
     on_err_weaker c.put_vertices.result (Stops-then (Sends-equal fields c.in_ok-line.ensures.ok)) c.put_vertices.ensures.err

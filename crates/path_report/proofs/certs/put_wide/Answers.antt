@@ -17,18 +17,18 @@ pub returns-in_err-line-clause-err : goal.returns-in_err-line-clause-err
 returns-in_err-line-clause-err g c =
     on_err c.from_residual.result
     (Stops-before (flat_map (edge_line c.args.labels.now) c.args.edges.now)
-    (Stops-equal (ap (λ n. line (codes "cert" ∷ codes "wide" ∷ n ∷ [])) (c.as_slice.ensures ∙ c.of-count.ensures)) c.in_err-line.ensures.err))
+    (Stops-equal (ap (λ n. line (codes "cert" ∷ codes "wide" ∷ n ∷ [])) (c.as_slice.ensures.digits ∙ c.of-count.ensures)) c.in_err-line.ensures.err))
 
 pub returns-clause-ok : goal.returns-clause-ok
 returns-clause-ok g c =
     on_ok_weaker c.put_edges.result
     (Sends-then
-    (Sends-equal (ap (λ n. line (codes "cert" ∷ codes "wide" ∷ n ∷ [])) (c.as_slice.ensures ∙ c.of-count.ensures)) c.in_ok-line.ensures.ok))
+    (Sends-equal (ap (λ n. line (codes "cert" ∷ codes "wide" ∷ n ∷ [])) (c.as_slice.ensures.digits ∙ c.of-count.ensures)) c.in_ok-line.ensures.ok))
     c.put_edges.ensures.ok
 
 pub returns-clause-err : goal.returns-clause-err
 returns-clause-err g c =
     on_err_weaker c.put_edges.result
     (Stops-then
-    (Sends-equal (ap (λ n. line (codes "cert" ∷ codes "wide" ∷ n ∷ [])) (c.as_slice.ensures ∙ c.of-count.ensures)) c.in_ok-line.ensures.ok))
+    (Sends-equal (ap (λ n. line (codes "cert" ∷ codes "wide" ∷ n ∷ [])) (c.as_slice.ensures.digits ∙ c.of-count.ensures)) c.in_ok-line.ensures.ok))
     c.put_edges.ensures.err

@@ -19,16 +19,16 @@ pub returns-in_err-line-clause-err : goal.returns-in_err-line-clause-err
 returns-in_err-line-clause-err g c =
     on_err c.from_residual.result
     (Stops-before (flat_map (run_line c.args.labels.now) c.args.runs.now)
-    (Stops-equal (ap (λ n. line (codes "safe" ∷ n ∷ [])) (c.as_slice.ensures ∙ c.of-count.ensures ∙ ap decimal c.len.ensures)) c.in_err-line.ensures.err))
+    (Stops-equal (ap (λ n. line (codes "safe" ∷ n ∷ [])) (c.as_slice.ensures.digits ∙ c.of-count.ensures ∙ ap decimal c.len.ensures)) c.in_err-line.ensures.err))
 
 pub returns-clause-ok : goal.returns-clause-ok
 returns-clause-ok g c =
     on_ok_weaker c.put_each_run.result
-    (Sends-then (Sends-equal (ap (λ n. line (codes "safe" ∷ n ∷ [])) (c.as_slice.ensures ∙ c.of-count.ensures ∙ ap decimal c.len.ensures)) c.in_ok-line.ensures.ok))
+    (Sends-then (Sends-equal (ap (λ n. line (codes "safe" ∷ n ∷ [])) (c.as_slice.ensures.digits ∙ c.of-count.ensures ∙ ap decimal c.len.ensures)) c.in_ok-line.ensures.ok))
     c.put_each_run.ensures.ok
 
 pub returns-clause-err : goal.returns-clause-err
 returns-clause-err g c =
     on_err_weaker c.put_each_run.result
-    (Stops-then (Sends-equal (ap (λ n. line (codes "safe" ∷ n ∷ [])) (c.as_slice.ensures ∙ c.of-count.ensures ∙ ap decimal c.len.ensures)) c.in_ok-line.ensures.ok))
+    (Stops-then (Sends-equal (ap (λ n. line (codes "safe" ∷ n ∷ [])) (c.as_slice.ensures.digits ∙ c.of-count.ensures ∙ ap decimal c.len.ensures)) c.in_ok-line.ensures.ok))
     c.put_each_run.ensures.err

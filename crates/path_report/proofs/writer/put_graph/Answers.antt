@@ -9,5 +9,5 @@ returns-else-is_empty-clause-err g c =
     on_err_weaker c.line-else-is_empty.result
     (Stops-equal
     (graph_line-named c.args.report.now.index c.as_slice-else-is_empty.result.now c.as_slice-name.result.now c.args.report.now.name
-    (c.as_slice-else-is_empty.ensures ∙ c.of-number.ensures) c.as_slice-name.ensures (sym c.if-is_empty.ensures)))
+    (c.as_slice-else-is_empty.ensures.digits ∙ c.of-number.ensures) c.as_slice-name.ensures (sym c.if-is_empty.ensures)))
     c.line-else-is_empty.ensures.err
