@@ -1,12 +1,13 @@
 -- Where an edge stands on a run of a net, by what is reached.
-use Rattle.std.proofs.Common.{◌≡◌, ◌≢◌, ℕ, zero, suc, ◌<◌, refl, sym, ap, ◌∙◌, arith, inl, inr, true, false, eqb, List, [], ◌∷◌, length, slice_index, get_or, eqb-true, subst}
+use Rattle.std.proofs.Common.{◌≡◌, ◌≢◌, ℕ, zero, suc, ◌<◌, sym, ap, ◌∙◌, arith, inl, inr, true, false, eqb, List, [], ◌∷◌, length, slice_index, get_or, eqb-true, subst}
 use Rattle.std.proofs.lemmas.Bool.{cases_order, false_from_ne_true}
 use Rattle.decomposition.specs.Graph.{Graph, IsNet, edge_count, tail, head, is_walk_from, IsRun, has_edge}
 use Rattle.decomposition.specs.Reach.{Reaches}
 use Rattle.decomposition.proofs.Members.{any-place}
-use Rattle.decomposition.proofs.Walks.{IsStep, walk-cons, walk-from_step}
+use Rattle.decomposition.proofs.Walks.{IsStep, walk-cons}
 use Rattle.decomposition.proofs.Reaching.{Reaches-self, Reaches-along, Reaches-trans}
 use Rattle.decomposition.proofs.Runs.{run-place}
+use Rattle.dag_net.proofs.Returns.{no_return}
 
 -- a walk leads from its start to each of its edges
 pub reaches-place : (g : Graph) (v : ℕ) (es : List ℕ) (k : ℕ) → is_walk_from g v es ≡ true → k < length es → Reaches g v (tail g (slice_index es k))
@@ -23,13 +24,6 @@ reaches-between g v [] j k walk before there = absurd (omega arith)
 reaches-between g v (e ∷ es) j zero walk before there = absurd (omega arith)
 reaches-between g v (e ∷ es) zero (suc k) walk before there = reaches-place g (head g e) es k (walk-cons g v e es walk).rest (omega arith)
 reaches-between g v (e ∷ es) (suc j) (suc k) walk before there = reaches-between g (head g e) es j k (walk-cons g v e es walk).rest (omega arith) (omega arith)
-
--- the head of an edge does not lead back to its tail
-pub no_return : (g : Graph) → IsNet g → (e : ℕ) → e < edge_count g → Reaches g (head g e) (tail g e) → ⊥
-no_return g net e there way =
-    let walk : is_walk_from g (tail g e) (e ∷ way.edges) ≡ true = walk-from_step g (tail g e) e way.edges (record { inside = there; leaves = refl; rest = way.walk }) in
-    let none : e ∷ way.edges ≡ [] = net.acyclic (tail g e) (e ∷ way.edges) walk way.end in
-    let no' : ⊥ = cc in no'
 
 pub run-between : (g : Graph) (run : List ℕ) (j k : ℕ) → IsRun g run → j < k → k < length run → Reaches g (head g (slice_index run j)) (tail g (slice_index run k))
 run-between g [] j k is before there = absurd (omega arith)

@@ -8,11 +8,17 @@ ghost use Rattle.graph_text.specs.Progress.{left_by};
 ghost use Rattle.graph_text.specs.declared.refusal.Why.TheVariants.{LongLine, BadCount, BadFields, BadWeight, BadRange, RepeatedEdge, TooManyEdges, TooManyConstraints, ShortConstraint, Cycle, UnknownEdge, Unconserved};
 ghost use Rattle.graph_text.specs.Examples.{reads, edge_lines, run_lines};
 
-/// Lines end with a line feed or with the text, and a `#` line after a content line begins a block.
-pub fn texts_are_cut()
+/// Lines end with a line feed or with the text, and fields with blanks; what stands in the block and the line in progress.
+pub fn lines_are_cut()
     ensures lines { lines_of (codes "# one\n2\r\ns t 5") ≡ codes "# one" ∷ codes "2" ∷ codes "s t 5" ∷ [] }
     ensures fields { fields_of (codes "  s  t 5 ") ≡ codes "s" ∷ codes "t" ∷ codes "5" ∷ [] }
     ensures no_fields { fields_of (codes " \t ") ≡ [] }
+    ensures begun { left_by (codes "# a\n2\ns t 1\n #") ≡ record { blocks = 1; line = 4; open_line = codes " #"; ended = [] } }
+    ensures goes_on { left_by (codes "\n# a\r\n2\ns #") ≡ record { blocks = 0; line = 4; open_line = codes "s #"; ended = codes "# a" ∷ codes "2" ∷ [] } }
+{}
+
+/// A `#` line after a content line begins a block.
+pub fn blocks_are_cut()
     ensures smallest { blocks (codes "# one\n2\ns t 5\n") ≡ record { index = 1; line = 1; lines = codes "# one" ∷ codes "2" ∷ codes "s t 5" ∷ [] } ∷ [] }
     ensures headless { blocks (codes "\n \n2") ≡ record { index = 1; line = 3; lines = codes "2" ∷ [] } ∷ [] }
     ensures empty { blocks [] ≡ [] }
@@ -25,8 +31,6 @@ pub fn texts_are_cut()
         ≡ blocks (codes "# a\n2\ns t 1\n# b\n2\ns t\n# c\n2\ns t 3\n # bye") }
     ensures none_complete { complete (codes "# a\n2\ns t 1\n \t") ≡ [] }
     ensures names { map name_of (blocks (codes "# a \n2\ns t 1\n #\tb c\n2\n")) ≡ codes "a" ∷ codes "b c" ∷ [] }
-    ensures begun { left_by (codes "# a\n2\ns t 1\n #") ≡ record { blocks = 1; line = 4; open_line = codes " #"; ended = [] } }
-    ensures goes_on { left_by (codes "\n# a\r\n2\ns #") ≡ record { blocks = 0; line = 4; open_line = codes "s #"; ended = codes "# a" ∷ codes "2" ∷ [] } }
 {}
 
 /// Blocks are read as graphs, or refused with a line.

@@ -18,7 +18,9 @@ mod refusal;
 
 pub use accepted::{blocks_have_whole_lines, graphs_are_accepted};
 pub use block::{Block, RawGraph};
-pub use examples::{blocks_are_read, constraints_are_read, limits_are_kept, texts_are_cut};
+pub use examples::{
+    blocks_are_cut, blocks_are_read, constraints_are_read, limits_are_kept, lines_are_cut,
+};
 pub use labels::Labels;
 pub use laws::{blocks_of_texts, complete_blocks_stay, refusals_name_lines};
 pub use reader::BlockReader;

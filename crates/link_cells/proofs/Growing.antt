@@ -83,11 +83,6 @@ pub list_at-take : (lists : List (List ℕ)) (n : ℕ) (tail : Option ℕ) → I
 list_at-take lists n None live = refl
 list_at-take lists n (Some k) live = get_or-take n lists k [] live
 
--- for callers: a live tail keeps its list when further lists are added
-pub list_at-append : (lists more : List (List ℕ)) (tail : Option ℕ) → IsLive (length lists) tail → list_at (lists ++ more) tail ≡ list_at lists tail
-list_at-append lists more None live = refl
-list_at-append lists more (Some k) live = get_or_append_left lists more [] k live
-
 -- a tail that is live among some cells is live among more
 pub live-more : (m n : ℕ) (tail : Option ℕ) → m ≤ n → IsLive m tail → IsLive n tail
 live-more m n None le live = live

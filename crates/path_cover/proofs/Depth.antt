@@ -1,5 +1,5 @@
 -- How many vertices reach a vertex: one more at least at the head of an edge than at its tail.
-use Rattle.std.proofs.Common.{◌≡◌, ℕ, ◌<◌, ◌≤◌, true, false, cond, [], ◌∷◌, refl, arith, inl, inr}
+use Rattle.std.proofs.Common.{◌≡◌, ℕ, ◌<◌, ◌≤◌, true, false, cond, refl, arith, inl, inr}
 use Rattle.std.proofs.lemmas.Bool.{cases_Bool}
 use Rattle.decomposition.specs.Graph.{Graph, IsNet, edge_count, tail, head}
 use Rattle.decomposition.specs.Answer.{sum_below}
@@ -8,7 +8,7 @@ use Rattle.decomposition.proofs.Sums.{sum_below-lt}
 use Rattle.decomposition.proofs.FewPaths.{sum_below-ones, one_or_none}
 use Rattle.decomposition.proofs.Nets.{Contains-edge, inside-from_net}
 use Rattle.decomposition.proofs.Reaching.{Reaches-self, Reaches-push, reaches_by_walks}
-use Rattle.decomposition.proofs.Walks.{walk-from_step}
+use Rattle.dag_net.proofs.Returns.{no_return}
 
 -- how many vertices reach v
 abbrev pub depth : Graph → ℕ → ℕ
@@ -18,13 +18,6 @@ pub depth-le : (g : Graph) (v : ℕ) → depth g v ≤ g.vertices
 depth-le g v = sum_below-ones (λ u. cond (reaches g u v) 1 0) g.vertices (λ u. one_or_none (reaches g u v))
 
 module _ (g : Graph) (net : IsNet g) where
-  -- no walk leads from the head of an edge to its tail
-  not_back : (e : ℕ) → e < edge_count g → Reaches g (head g e) (tail g e) → ⊥
-  not_back e h way =
-      let walk = walk-from_step g (tail g e) e way.edges (record { inside = h; leaves = refl; rest = way.walk }) in
-      let none : e ∷ way.edges ≡ [] = net.acyclic (tail g e) (e ∷ way.edges) walk way.end in
-      absurd (let no' : ⊥ = cc in no')
-
   pub depth-rises : (e : ℕ) → e < edge_count g → depth g (tail g e) < depth g (head g e)
   depth-rises e h =
       sum_below-lt (λ u. cond (reaches g u (tail g e)) 1 0) (λ u. cond (reaches g u (head g e)) 1 0) g.vertices (head g e) (inside-from_net g net e h).1
@@ -38,4 +31,4 @@ module _ (g : Graph) (net : IsNet g) where
       itself = (reaches_by_walks g (head g e) (head g e) net).1 (Reaches-self g (head g e) (head g e) refl)
 
       away : reaches g (head g e) (tail g e) ≡ false
-      away = elim (cases_Bool (reaches g (head g e) (tail g e))) [ inl way ↦ absurd (not_back e h ((reaches_by_walks g (head g e) (tail g e) net).0 way)) | inr no' ↦ no' ]
+      away = elim (cases_Bool (reaches g (head g e) (tail g e))) [ inl way ↦ absurd (no_return g net e h ((reaches_by_walks g (head g e) (tail g e) net).0 way)) | inr no' ↦ no' ]

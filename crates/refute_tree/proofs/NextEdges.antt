@@ -1,6 +1,6 @@
 -- The edges that may follow a walk: as a list that rises, one after the other, and by the walk's last edge.
 use Rattle.std.proofs.Common.{◌≡◌, ℕ, zero, suc, ◌+◌, ◌<◌, ◌≤◌, Bool, true, false, ◌&&◌, ◌==◌, nat_lt, eqb, List, [], ◌∷◌, ◌++◌, Option, None, Some, MatchOption, refl, sym, ap, ◌∙◌, subst, arith, inl, inr, ⊎_elim, eq-eqb, ne_eqb, ltb-true, lt-ltb, le-ltb, true≢false}
-use Rattle.std.specs.Prelude.{IsTrue, IsSome, filter}
+use Rattle.std.specs.Prelude.{IsTrue, filter}
 use Rattle.std.specs.Option.{is_none}
 use Rattle.std.proofs.lemmas.Bool.{cases_Bool, cases_lt, and_from, and_left, and_right}
 use Rattle.std.proofs.lemmas.List.Elements.{filter-append, filter_agree}
@@ -109,10 +109,6 @@ out_passes g v from (Some d) first = (first.0, first.1, eq-eqb (tail g d) v firs
 pub list_at-empty : (lists : List (List ℕ)) (walk : Option ℕ) → is_none walk ≡ true → list_at lists walk ≡ []
 list_at-empty lists None empty = refl
 list_at-empty lists (Some k) empty = absurd (true≢false (sym empty))
-
-pub some-from_not_none : (walk : Option ℕ) → is_none walk ≡ false → IsSome walk
-some-from_not_none None not_none = absurd (true≢false not_none)
-some-from_not_none (Some k) not_none = refl
 
 -- the edges that may follow a walk, by its last edge
 pub next_edges-last : (g : Graph) (before : List ℕ) (e : ℕ) → next_edges g (before ++ e ∷ []) ≡ edges_from g (head g e)

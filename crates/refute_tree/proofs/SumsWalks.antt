@@ -9,7 +9,7 @@ use Rattle.decomposition.proofs.Members.{any-cons}
 use Rattle.decomposition.proofs.Walks.{IsStep, walk-cons, walk-distinct, walk-inside, walk_end-append}
 use Rattle.decomposition.proofs.Reaching.{Reaches-trans, reaches_by_walks}
 use Rattle.decomposition.proofs.Reach.{may_have-from, may_have-to}
-use Rattle.flow_models.proofs.Halving.{no_return}
+use Rattle.dag_net.proofs.Returns.{no_return}
 use Rattle.refute_tree.specs.Sums.{AddsWhere}
 use Rattle.refute_tree.proofs.SumsWeights.{adds-both}
 
