@@ -1,5 +1,5 @@
 -- What a run took of the graph text, and what it then wrote.
-use Rattle.std.proofs.Common.{◌≡◌, ◌≢◌, ◌≤◌, ◌<◌, ◌^◌, ◌+◌, ◌==◌, ℕ, List, [], ◌++◌, length, take, drop, false, Option, Result, Ok, Err, refl, sym, ap, subst, ◌∙◌, arith, inl, inr, append-nil, eq-eqb}
+use Rattle.std.proofs.Common.{◌≡◌, ◌⊎◌, ◌≢◌, ◌≤◌, ◌<◌, ◌^◌, ◌+◌, ◌==◌, ℕ, List, [], ◌++◌, length, take, drop, false, Option, Result, Ok, Err, refl, sym, ap, subst, ◌∙◌, arith, inl, inr, append-nil, eq-eqb}
 use Rattle.std.proofs.lemmas.Bool.{cond_both, cond-true, cond-false, eqb-true, false_from_ne_true}
 use Rattle.std.specs.List.{list_any}
 use Rattle.std.specs.Prelude.{IfOk, OnErr, not}
@@ -147,34 +147,50 @@ Printed-done bytes reports status before now printed =
     (cond_both (length (blocks bytes) == length (report_texts reports)) (status_of outcomes) Refused IsDone
     (λ _. done-by (list_any is_unread outcomes) (list_any (λ outcome. not (is_yes outcome)) outcomes)) (λ _. tt))
 
--- a run that could not begin
-pub right-nothing : (reports : List ℕ) (first : Option (Option Selected)) (before : Option (List ℕ)) (rose : Type 0) → EndsRight reports Memory first first before before rose
-right-nothing reports first before rose = record {
-  bytes = [];
-  took = Took-nothing first;
-  most = omega arith;
-  not_words = λ e. absurd (let no' : ⊥ = cc in no');
-  done = λ h. absurd h;
-  long = λ e. absurd (let no' : ⊥ = cc in no');
-  fault = λ e. absurd (let no' : ⊥ = cc in no');
-  written = λ e _. absurd (let no' : ⊥ = cc in no');
-  memory = λ _. inl ([], (0, ([], record { outcomes_are = refl; lines_are = refl })), Adds-nothing before);
-}
-
--- a run whose read failed
-pub right-fault : (reports : List ℕ) (checking : Checking) (reader : BlockReader) (bytes : List ℕ) (first last : Option (Option Selected)) (before now : Option (List ℕ)) (rose : Type 0) →
-    Took first last bytes → length bytes ≤ 2 ^ 30 → Underway reports checking reader bytes before now → EndsRight reports Fault first last before now rose
-right-fault reports checking reader bytes first last before now rose took most under = record {
+-- a run that wanted memory
+right-memory : (reports bytes : List ℕ) (first last : Option (Option Selected)) (before now : Option (List ℕ)) (rose : Type 0) →
+    Took first last bytes → length bytes ≤ 2 ^ 30 → (WroteFirst reports (complete bytes) before now ⊎ (IsAtEnd last × WroteFirst reports (blocks bytes) before now)) →
+    EndsRight reports Memory first last before now rose
+right-memory reports bytes first last before now rose took most wrote = record {
   bytes = bytes;
   took = took;
   most = most;
   not_words = λ e. absurd (let no' : ⊥ = cc in no');
   done = λ h. absurd h;
   long = λ e. absurd (let no' : ⊥ = cc in no');
-  fault = λ _. inl (First-beginning reports (complete bytes) before now (underway-first reports checking reader bytes before now under));
-  written = λ _ _. Wrote-all reports checking (complete bytes) before now under.wrote;
+  fault = λ e. absurd (let no' : ⊥ = cc in no');
+  written = λ e _. absurd (let no' : ⊥ = cc in no');
+  memory = λ _. wrote;
+}
+
+-- a run that met a fault
+right-failed : (reports bytes : List ℕ) (first last : Option (Option Selected)) (before now : Option (List ℕ)) (rose : Type 0) →
+    Took first last bytes → length bytes ≤ 2 ^ 30 → (WroteBeginning reports (complete bytes) before now ⊎ (IsAtEnd last × PrintedBeginning bytes reports before now)) → ((rose → ⊥) → WroteAll reports (complete bytes) before now) →
+    EndsRight reports Fault first last before now rose
+right-failed reports bytes first last before now rose took most begins written = record {
+  bytes = bytes;
+  took = took;
+  most = most;
+  not_words = λ e. absurd (let no' : ⊥ = cc in no');
+  done = λ h. absurd h;
+  long = λ e. absurd (let no' : ⊥ = cc in no');
+  fault = λ _. begins;
+  written = λ _. written;
   memory = λ e. absurd (let no' : ⊥ = cc in no');
 }
+
+-- a run that could not begin
+pub right-nothing : (reports : List ℕ) (first : Option (Option Selected)) (before : Option (List ℕ)) (rose : Type 0) → EndsRight reports Memory first first before before rose
+right-nothing reports first before rose =
+    right-memory reports [] first first before before rose (Took-nothing first) (omega arith) (inl ([], (0, ([], record { outcomes_are = refl; lines_are = refl })), Adds-nothing before))
+
+-- a run whose read failed
+pub right-fault : (reports : List ℕ) (checking : Checking) (reader : BlockReader) (bytes : List ℕ) (first last : Option (Option Selected)) (before now : Option (List ℕ)) (rose : Type 0) →
+    Took first last bytes → length bytes ≤ 2 ^ 30 → Underway reports checking reader bytes before now → EndsRight reports Fault first last before now rose
+right-fault reports checking reader bytes first last before now rose took most under =
+    right-failed reports bytes first last before now rose took most
+    (inl (First-beginning reports (complete bytes) before now (underway-first reports checking reader bytes before now under)))
+    (λ _. Wrote-all reports checking (complete bytes) before now under.wrote)
 
 -- a run that came to its limit
 pub right-long : (reports : List ℕ) (checking : Checking) (reader : BlockReader) (bytes : List ℕ) (first last : Option (Option Selected)) (before now : Option (List ℕ)) (rose : Type 0) →
@@ -210,28 +226,10 @@ right-end reports (Ok status) bytes first last before now rose took end few prin
       written = λ e _. absurd (subst IsDone e done);
       memory = λ e. absurd (subst IsDone e done);
     }
-right-end reports (Err OutOfMemory) bytes first last before now rose took end few printed memory cut rises short = record {
-  bytes = bytes;
-  took = took;
-  most = omega arith;
-  not_words = λ e. absurd (let no' : ⊥ = cc in no');
-  done = λ h. absurd h;
-  long = λ e. absurd (let no' : ⊥ = cc in no');
-  fault = λ e. absurd (let no' : ⊥ = cc in no');
-  written = λ e _. absurd (let no' : ⊥ = cc in no');
-  memory = λ _. inr (end, memory refl);
-}
-right-end reports (Err Failed) bytes first last before now rose took end few printed memory cut rises short = record {
-  bytes = bytes;
-  took = took;
-  most = omega arith;
-  not_words = λ e. absurd (let no' : ⊥ = cc in no');
-  done = λ h. absurd h;
-  long = λ e. absurd (let no' : ⊥ = cc in no');
-  fault = λ _. inr (end, cut refl);
-  written = λ _ quiet. absurd (quiet (rises refl));
-  memory = λ e. absurd (let no' : ⊥ = cc in no');
-}
+right-end reports (Err OutOfMemory) bytes first last before now rose took end few printed memory cut rises short =
+    right-memory reports bytes first last before now rose took (omega (arith, few)) (inr (end, memory refl))
+right-end reports (Err Failed) bytes first last before now rose took end few printed memory cut rises short =
+    right-failed reports bytes first last before now rose took (omega (arith, few)) (inr (end, cut refl)) (λ quiet. absurd (quiet (rises refl)))
 right-end reports (Err TooLong) bytes first last before now rose took end few printed memory cut rises short = absurd (short refl)
 
 -- a run that stopped within a piece
@@ -240,29 +238,9 @@ pub right-stop : (reports : List ℕ) (stop : Stop) (status : Status) (bytes : L
     (stop ≡ OutOfMemory → WroteFirst reports (complete bytes) before now) → (stop ≡ Failed → WroteBeginning reports (complete bytes) before now) → (stop ≡ Failed → rose) → (stop ≡ TooLong → ⊥) →
     EndsRight reports status first last before now rose
 right-stop reports OutOfMemory status bytes first last before now rose took most is memory cut rises short =
-    subst (λ st. EndsRight reports st first last before now rose) (sym is) (record {
-      bytes = bytes;
-      took = took;
-      most = most;
-      not_words = λ e. absurd (let no' : ⊥ = cc in no');
-      done = λ h. absurd h;
-      long = λ e. absurd (let no' : ⊥ = cc in no');
-      fault = λ e. absurd (let no' : ⊥ = cc in no');
-      written = λ e _. absurd (let no' : ⊥ = cc in no');
-      memory = λ _. inl (memory refl);
-    })
+    subst (λ st. EndsRight reports st first last before now rose) (sym is) (right-memory reports bytes first last before now rose took most (inl (memory refl)))
 right-stop reports Failed status bytes first last before now rose took most is memory cut rises short =
-    subst (λ st. EndsRight reports st first last before now rose) (sym is) (record {
-      bytes = bytes;
-      took = took;
-      most = most;
-      not_words = λ e. absurd (let no' : ⊥ = cc in no');
-      done = λ h. absurd h;
-      long = λ e. absurd (let no' : ⊥ = cc in no');
-      fault = λ _. inl (cut refl);
-      written = λ _ quiet. absurd (quiet (rises refl));
-      memory = λ e. absurd (let no' : ⊥ = cc in no');
-    })
+    subst (λ st. EndsRight reports st first last before now rose) (sym is) (right-failed reports bytes first last before now rose took most (inl (cut refl)) (λ quiet. absurd (quiet (rises refl))))
 right-stop reports TooLong status bytes first last before now rose took most is memory cut rises short = absurd (short refl)
 
 -- a run that ended with a fault was stopped by one

@@ -1,5 +1,5 @@
 -- What a run took of its input, and what it then wrote.
-use Rattle.std.proofs.Common.{◌≡◌, ◌≤◌, ◌<◌, ◌^◌, ℕ, List, [], length, take, Option, Result, Ok, Err, refl, sym, subst, ◌∙◌, arith, inl, inr, append-nil}
+use Rattle.std.proofs.Common.{◌≡◌, ◌⊎◌, ◌≤◌, ◌<◌, ◌^◌, ℕ, List, [], length, take, Option, Result, Ok, Err, refl, sym, subst, ◌∙◌, arith, inl, inr, append-nil}
 use Rattle.std.specs.List.{list_any}
 use Rattle.std.specs.Prelude.{IfOk}
 use Rattle.flow_io.specs.Outside.{Selected, Took}
@@ -44,34 +44,50 @@ Wrote-done s shown status before now wrote =
     let reports = wrote.1.0 in
     subst IsDone (sym wrote.1.2) (done-by (list_any (λ r. is_refused r.body) reports) (list_any (λ r. is_open r.body) reports))
 
--- a run that could not begin
-pub right-nothing : (s : Settings) (first : Option (Option Selected)) (before : Option (List ℕ)) (rose : Type 0) → EndsRight s Memory first first before before rose
-right-nothing s first before rose = record {
-  bytes = [];
-  took = Took-nothing first;
-  most = omega arith;
-  not_words = λ e. absurd (let no' : ⊥ = cc in no');
-  done = λ h. absurd h;
-  long = λ e. absurd (let no' : ⊥ = cc in no');
-  fault = λ e. absurd (let no' : ⊥ = cc in no');
-  written = λ e _. absurd (let no' : ⊥ = cc in no');
-  memory = λ _. inl ([], (0, ([], refl)), Adds-nothing before);
-}
-
--- a run whose read failed
-pub right-fault : (s : Settings) (reader : BlockReader) (bytes : List ℕ) (status : Status) (first last : Option (Option Selected)) (before now : Option (List ℕ)) (rose : Type 0) →
-    Took first last bytes → length bytes ≤ 2 ^ 30 → Underway s reader bytes status before now → EndsRight s Fault first last before now rose
-right-fault s reader bytes status first last before now rose took most under = record {
+-- a run that wanted memory
+right-memory : (s : Settings) (bytes : List ℕ) (first last : Option (Option Selected)) (before now : Option (List ℕ)) (rose : Type 0) →
+    Took first last bytes → length bytes ≤ 2 ^ 30 → (WroteFirst s (complete bytes) before now ⊎ (IsAtEnd last × WroteFirst s (blocks bytes) before now)) →
+    EndsRight s Memory first last before now rose
+right-memory s bytes first last before now rose took most wrote = record {
   bytes = bytes;
   took = took;
   most = most;
   not_words = λ e. absurd (let no' : ⊥ = cc in no');
   done = λ h. absurd h;
   long = λ e. absurd (let no' : ⊥ = cc in no');
-  fault = λ _. inl (First-beginning s (complete bytes) before now (underway-first s reader bytes status before now under));
-  written = λ _ _. Wrote-all s (complete bytes) status before now under.wrote;
+  fault = λ e. absurd (let no' : ⊥ = cc in no');
+  written = λ e _. absurd (let no' : ⊥ = cc in no');
+  memory = λ _. wrote;
+}
+
+-- a run that met a fault
+right-failed : (s : Settings) (bytes : List ℕ) (first last : Option (Option Selected)) (before now : Option (List ℕ)) (rose : Type 0) →
+    Took first last bytes → length bytes ≤ 2 ^ 30 → (WroteBeginning s (complete bytes) before now ⊎ (IsAtEnd last × WroteBeginning s (blocks bytes) before now)) → ((rose → ⊥) → WroteAll s (complete bytes) before now) →
+    EndsRight s Fault first last before now rose
+right-failed s bytes first last before now rose took most begins written = record {
+  bytes = bytes;
+  took = took;
+  most = most;
+  not_words = λ e. absurd (let no' : ⊥ = cc in no');
+  done = λ h. absurd h;
+  long = λ e. absurd (let no' : ⊥ = cc in no');
+  fault = λ _. begins;
+  written = λ _. written;
   memory = λ e. absurd (let no' : ⊥ = cc in no');
 }
+
+-- a run that could not begin
+pub right-nothing : (s : Settings) (first : Option (Option Selected)) (before : Option (List ℕ)) (rose : Type 0) → EndsRight s Memory first first before before rose
+right-nothing s first before rose =
+    right-memory s [] first first before before rose (Took-nothing first) (omega arith) (inl ([], (0, ([], refl)), Adds-nothing before))
+
+-- a run whose read failed
+pub right-fault : (s : Settings) (reader : BlockReader) (bytes : List ℕ) (status : Status) (first last : Option (Option Selected)) (before now : Option (List ℕ)) (rose : Type 0) →
+    Took first last bytes → length bytes ≤ 2 ^ 30 → Underway s reader bytes status before now → EndsRight s Fault first last before now rose
+right-fault s reader bytes status first last before now rose took most under =
+    right-failed s bytes first last before now rose took most
+    (inl (First-beginning s (complete bytes) before now (underway-first s reader bytes status before now under)))
+    (λ _. Wrote-all s (complete bytes) status before now under.wrote)
 
 -- a run that came to its limit
 pub right-long : (s : Settings) (reader : BlockReader) (bytes : List ℕ) (status : Status) (first last : Option (Option Selected)) (before now : Option (List ℕ)) (rose : Type 0) →
@@ -107,28 +123,10 @@ right-end s (Ok after) bytes first last before now rose took end few wrote memor
       written = λ e _. absurd (subst IsDone e done);
       memory = λ e. absurd (subst IsDone e done);
     }
-right-end s (Err OutOfMemory) bytes first last before now rose took end few wrote memory cut rises = record {
-  bytes = bytes;
-  took = took;
-  most = omega arith;
-  not_words = λ e. absurd (let no' : ⊥ = cc in no');
-  done = λ h. absurd h;
-  long = λ e. absurd (let no' : ⊥ = cc in no');
-  fault = λ e. absurd (let no' : ⊥ = cc in no');
-  written = λ e _. absurd (let no' : ⊥ = cc in no');
-  memory = λ _. inr (end, memory refl);
-}
-right-end s (Err Failed) bytes first last before now rose took end few wrote memory cut rises = record {
-  bytes = bytes;
-  took = took;
-  most = omega arith;
-  not_words = λ e. absurd (let no' : ⊥ = cc in no');
-  done = λ h. absurd h;
-  long = λ e. absurd (let no' : ⊥ = cc in no');
-  fault = λ _. inr (end, cut refl);
-  written = λ _ quiet. absurd (quiet (rises refl));
-  memory = λ e. absurd (let no' : ⊥ = cc in no');
-}
+right-end s (Err OutOfMemory) bytes first last before now rose took end few wrote memory cut rises =
+    right-memory s bytes first last before now rose took (omega (arith, few)) (inr (end, memory refl))
+right-end s (Err Failed) bytes first last before now rose took end few wrote memory cut rises =
+    right-failed s bytes first last before now rose took (omega (arith, few)) (inr (end, cut refl)) (λ quiet. absurd (quiet (rises refl)))
 
 -- a run that stopped within a piece
 pub right-stop : (s : Settings) (stop : Stop) (status : Status) (bytes : List ℕ) (first last : Option (Option Selected)) (before now : Option (List ℕ)) (rose : Type 0) →
@@ -136,29 +134,9 @@ pub right-stop : (s : Settings) (stop : Stop) (status : Status) (bytes : List �
     (stop ≡ OutOfMemory → WroteFirst s (complete bytes) before now) → (stop ≡ Failed → WroteBeginning s (complete bytes) before now) → (stop ≡ Failed → rose) →
     EndsRight s status first last before now rose
 right-stop s OutOfMemory status bytes first last before now rose took most if_memory if_fault memory cut rises =
-    subst (λ st. EndsRight s st first last before now rose) (sym (if_memory refl)) (record {
-      bytes = bytes;
-      took = took;
-      most = most;
-      not_words = λ e. absurd (let no' : ⊥ = cc in no');
-      done = λ h. absurd h;
-      long = λ e. absurd (let no' : ⊥ = cc in no');
-      fault = λ e. absurd (let no' : ⊥ = cc in no');
-      written = λ e _. absurd (let no' : ⊥ = cc in no');
-      memory = λ _. inl (memory refl);
-    })
+    subst (λ st. EndsRight s st first last before now rose) (sym (if_memory refl)) (right-memory s bytes first last before now rose took most (inl (memory refl)))
 right-stop s Failed status bytes first last before now rose took most if_memory if_fault memory cut rises =
-    subst (λ st. EndsRight s st first last before now rose) (sym (if_fault refl)) (record {
-      bytes = bytes;
-      took = took;
-      most = most;
-      not_words = λ e. absurd (let no' : ⊥ = cc in no');
-      done = λ h. absurd h;
-      long = λ e. absurd (let no' : ⊥ = cc in no');
-      fault = λ _. inl (cut refl);
-      written = λ _ quiet. absurd (quiet (rises refl));
-      memory = λ e. absurd (let no' : ⊥ = cc in no');
-    })
+    subst (λ st. EndsRight s st first last before now rose) (sym (if_fault refl)) (right-failed s bytes first last before now rose took most (inl (cut refl)) (λ quiet. absurd (quiet (rises refl))))
 
 -- a run that ended with a fault was stopped by one
 pub ended-fault : (s : Settings) (outcome : Result Status Stop) (shown : List TextBlock) (before now : Option (List ℕ)) →
