@@ -1,27 +1,29 @@
 -- From what a run took and wrote to what is said of it where the inputs and the output tell.
-use Rattle.std.proofs.Common.{◌≡◌, ◌≢◌, ◌≤◌, ◌<◌, ◌^◌, ◌⊎◌, ℕ, List, [], ◌∷◌, ◌++◌, length, true, false, Option, Some, None, Result, Ok, Err, is_err, OnErr, OnOk, refl, sym, ap, subst, ◌∙◌, arith, inl, inr, append-nil}
+use Rattle.std.proofs.Common.{◌≡◌, ◌≢◌, ◌≤◌, ◌<◌, ◌^◌, ◌⊎◌, ℕ, List, [], ◌∷◌, ◌++◌, length, true, false, Option, Some, None, refl, sym, ap, subst, ◌∙◌, arith, inl, inr, append-nil}
 use Rattle.std.specs.Prelude.{IfSome, IsSome, IsNone, is_some, if◌then◌else◌}
 use Rattle.std.specs.Str.{bytes_eq}
 use Rattle.std.proofs.lemmas.Bool.{cond-true, cond-false, false_from_ne_true}
 use Rattle.std.proofs.lemmas.List.{append_cancel_left}
 use Rattle.std.proofs.lemmas.Option.{none-some}
 use Rattle.std.proofs.lemmas.Slice.Eq.{bytes_eq-Decides}
-use Rattle.flow_io.specs.Outside.{Selected, Unselected, Adds}
+use Rattle.flow_io.specs.Outside.{Selected, Adds}
 use Rattle.flow_io.proofs.Adding.{Adds-nothing}
 use Rattle.flow_io.specs.declared.status.Status.{Status}
 use Rattle.flow_io.specs.declared.status.Status.TheVariants.{Clean, Partial, Refused, Words, Fault, Memory, Long}
 use Rattle.graph_text.specs.Blocks.{blocks, complete}
-use Rattle.graph_text.proofs.Growing.{blocks-begin}
+use Rattle.program_runs.proofs.FirstBlocks.{first-at}
+use Rattle.program_runs.proofs.HandedBlocks.{blocks-seen}
+use Rattle.program_runs.proofs.Inputs.{left-at, taken-at, where_took, where_none}
+use Rattle.program_runs.proofs.Writing.{where_written}
 use Rattle.flowcheck_cli.specs.Checking.{WroteFirst, EndsRight, BeginsRight}
 use Rattle.flowcheck_cli.specs.Inputs.{Seen, WhereSeen, left_of, taken, bytes_without, TakesFirst, IsNoOther}
-use Rattle.flowcheck_cli.specs.Run.{BothSeen, WhereBothSeen, WhereWritten, AreLines, AreFirstLines, BeginsLines, BeginsPrinted, BeginsAt, IsPrintedWith, IsDone, Reads, Writes, blocks_at, graphs_left, graphs_taken}
+use Rattle.flowcheck_cli.specs.Run.{BothSeen, WhereBothSeen, WhereWritten, AreLines, AreFirstLines, BeginsLines, BeginsPrinted, BeginsAt, IsPrintedWith, IsDone, Reads, Writes, blocks_at, graphs_left}
 use Rattle.flowcheck_cli.specs.Stops.{status_by}
 use Rattle.flowcheck_cli.specs.Inputs.{IsAtEnd}
 use Rattle.flowcheck_cli.specs.Words.{InputNames, names_of}
 use Rattle.flowcheck_cli.specs.declared.stop.Stop.{Stop}
 use Rattle.flowcheck_cli.specs.declared.stop.Stop.TheVariants.{Memory as OutOfMemory, Fault as Failed, Long as TooLong}
-use Rattle.flowcheck_cli.proofs.Taken.{left-at, taken-at, where_took, first-at}
-use Rattle.flowcheck_cli.proofs.Underways.{first-longer}
+use Rattle.flowcheck_cli.proofs.Taken.{takes-first_at}
 
 -- names that differ
 names_differ : (a b : List ℕ) → a ≢ b → bytes_eq a b ≡ false
@@ -76,7 +78,7 @@ reads-at : (names : InputNames) (reports : List ℕ) (status : Status) (first la
     (right : EndsRight reports status first last before now rose) (rest : List ℕ) → names.graph ≢ names.report → length reports < 2 ^ 30 → (IsAtEnd last → rest ≡ []) →
     Reads names status (at_graph names reports right.bytes rest)
 reads-at names reports status first last before now rose right rest differ short at_end = record {
-  graph = first-at names.graph right.bytes rest right.most;
+  graph = takes-first_at names.graph right.bytes rest right.most;
   report = absent names.report (record { held = reports; last = (at_graph names reports right.bytes rest).last }) (report_left names reports right.bytes rest differ);
   reports_first = λ _. short;
   ended = λ done.
@@ -100,11 +102,6 @@ reads-none names graphs reports = record {
   verdict = λ h. absurd h;
 }
 
-where_none : (P : Seen → Type 0) (held : Option (List ℕ)) (last : Option (Option Selected)) → Unselected last → ((whole : List ℕ) → P (record { held = whole; last = None })) → WhereSeen held last P
-where_none P None last none holds = tt
-where_none P (Some whole) None none holds = tt
-where_none P (Some whole) (Some last) none holds = subst (λ l. P (record { held = whole; last = l })) (sym none) (holds whole)
-
 -- what was read
 pub reads-right : (names : InputNames) (reports : List ℕ) (status : Status) (held_graph held_report : Option (List ℕ)) (middle last : Option (Option Selected)) (before now : Option (List ℕ)) (rose : Type 0) →
     names.graph ≢ names.report → length reports < 2 ^ 30 → WhereSeen held_report middle (λ seen. seen.held ≡ reports) → is_some last ≡ is_some middle →
@@ -117,24 +114,6 @@ reads-right names reports status held_graph held_report middle last before now r
     where_both (Reads names status) held_graph held_report middle last reports whole told
     (where_took (λ seen. Reads names status (record { graphs = seen.held; reports = reports; last = seen.last })) names.graph held_graph first last right.bytes starts right.took
     (λ rest at_end. reads-at names reports status first last before now rose right rest differ short at_end))
-
--- a text that was added is where the output tells
-where_written : (P : List ℕ → Type 0) (before now : Option (List ℕ)) (text : List ℕ) → Adds before now text → P text → WhereWritten before now P
-where_written P None now text adds holds = tt
-where_written P (Some start) now text adds holds = (text, adds, holds)
-
--- where nothing is left, the last block counts among those that may be shown
-at_beginning : (reports bytes rest text : List ℕ) → BeginsLines reports (complete bytes) text → BeginsLines reports (blocks_at bytes (Some rest)) text
-at_beginning reports bytes [] text begins =
-    let all = blocks-begin bytes in
-    subst (λ l. BeginsLines reports l text) (sym all.1) (begins.0, first-longer reports (complete bytes) all.0 (text ++ begins.0) begins.1)
-at_beginning reports bytes (b ∷ rest) text begins = begins
-
-at_first : (reports bytes rest text : List ℕ) → AreFirstLines reports (complete bytes) text → AreFirstLines reports (blocks_at bytes (Some rest)) text
-at_first reports bytes [] text lines =
-    let all = blocks-begin bytes in
-    subst (λ l. AreFirstLines reports l text) (sym all.1) (first-longer reports (complete bytes) all.0 text lines)
-at_first reports bytes (b ∷ rest) text lines = lines
 
 -- the graph text is selected, so it is not that nothing of it is told
 never_none : (names : InputNames) (reports bytes rest : List ℕ) {P : Type 0} → graphs_left names (at_graph names reports bytes rest) ≡ None → P
@@ -154,11 +133,6 @@ of_done names reports status rose bytes rest text not_long not_fault not_memory 
   written = λ e _ _. absurd (not_fault e);
   memory = λ e _. absurd (not_memory e);
 }
-
--- what may be shown, by the bytes taken and those left
-shown-at : (names : InputNames) (reports bytes rest : List ℕ) → blocks_at (graphs_taken names (at_graph names reports bytes rest)) (graphs_left names (at_graph names reports bytes rest)) ≡ blocks_at bytes (Some rest)
-shown-at names reports bytes rest =
-    ap (λ b. blocks_at b (graphs_left names (at_graph names reports bytes rest))) (taken-at names.graph bytes rest) ∙ ap (blocks_at bytes) (left-at names.graph bytes rest)
 
 -- a beginning of what is printed at the end
 printed_at : (reports bytes rest text : List ℕ) → rest ≡ [] → (BeginsLines reports (blocks bytes) text ⊎ BeginsPrinted bytes reports text) → BeginsAt reports bytes (Some rest) text
@@ -203,7 +177,7 @@ writes-at names reports Long first last before now rose right rest at_end =
     })
 writes-at names reports Memory first last before now rose right rest at_end =
     let wrote : WroteFirst reports (blocks_at right.bytes (Some rest)) before now = elim (right.memory refl) [
-      | inl some ↦ (some.0, at_first reports right.bytes rest some.0 some.1, some.2)
+      | inl some ↦ (some.0, first-at (λ l. AreLines reports l some.0) right.bytes rest some.1, some.2)
       | inr all ↦ subst (λ r. WroteFirst reports (blocks_at right.bytes (Some r)) before now) (sym (at_end all.0)) all.1
     ] in
     where_written _ before now wrote.0 wrote.2 (record {
@@ -212,12 +186,12 @@ writes-at names reports Memory first last before now rose right rest at_end =
       long = λ e. absurd (let no' : ⊥ = cc in no');
       fault = λ e _. absurd (let no' : ⊥ = cc in no');
       written = λ e _ _. absurd (let no' : ⊥ = cc in no');
-      memory = λ _ _. subst (λ l. AreFirstLines reports l wrote.0) (sym (shown-at names reports right.bytes rest)) wrote.1;
+      memory = λ _ _. subst (λ l. AreFirstLines reports l wrote.0) (sym (blocks-seen names.graph right.bytes rest)) wrote.1;
     })
 writes-at names reports Fault first last None now rose right rest at_end = tt
 writes-at names reports Fault first last (Some start) now rose right rest at_end =
     let wrote : (text : List ℕ) × BeginsAt reports right.bytes (Some rest) text × Adds (Some start) now text = elim (right.fault refl) [
-      | inl some ↦ (some.0, inl (at_beginning reports right.bytes rest some.0 some.1), some.2)
+      | inl some ↦ (some.0, inl (some.1.0, first-at (λ l. AreLines reports l (some.0 ++ some.1.0)) right.bytes rest some.1.1), some.2)
       | inr all ↦ (all.1.0, printed_at reports right.bytes rest all.1.0 (at_end all.0) all.1.1, all.1.2)
     ] in (
       wrote.0,
@@ -315,15 +289,6 @@ writes-stopped names stop rose held_graph held_report last told differ first onl
     where_neither (λ seen. WhereWritten told told (Writes names (status_by stop) rose seen)) (Stopped names stop) held_graph held_report last
     (stopped-at names stop held_report last differ first only long)
     (λ graphs seen stopped. where_written _ told told [] (Adds-nothing told) (writes-stopped-at names stop rose graphs seen stopped))
-
--- what holds on Ok, of a result that is no Err, and the other way round
-pub ok_at : {T E : Type 0} (r : Result T E) {P : Type 0} → false ≡ is_err r → OnOk r P → P
-ok_at (Ok x) is holds = holds
-ok_at (Err e) is holds = absurd (let no' : ⊥ = cc in no')
-
-pub err_at : {T E : Type 0} (r : Result T E) {P : Type 0} → true ≡ is_err r → OnErr r P → P
-err_at (Ok x) is holds = absurd (let no' : ⊥ = cc in no')
-err_at (Err e) is holds = holds
 
 -- two words that name two inputs differ
 pair_differ : (graph report : List ℕ) (names : InputNames) →

@@ -1,15 +1,15 @@
 -- Outcomes and lines that grow by one block after another.
 use Rattle.std.proofs.Common.{◌≡◌, ℕ, ◌+◌, List, [], ◌∷◌, ◌++◌, length, take, drop, Option, refl, sym, ◌∙◌, ap, subst, append_assoc, append-nil, zero-add, arith}
-use Rattle.std.proofs.lemmas.List.{take-append-drop}
-use Rattle.std.proofs.Math.Seq.{take-append_seam}
 use Rattle.flow_io.specs.Outside.{Adds, AddsPrefix}
 use Rattle.flow_io.specs.declared.status.Status.TheVariants.{Clean}
 use Rattle.flow_io.proofs.Adding.{Adds-nothing, Adds-then}
 use Rattle.decomposition.specs.declared.Mode.{Mode}
 use Rattle.graph_text.specs.Blocks.{TextBlock, numbered, blocks, graphs, groups_of, lead}
+use Rattle.program_runs.specs.HandedBlocks.{IsHandedFor}
+use Rattle.program_runs.proofs.FirstBlocks.{first-more, first-all}
+use Rattle.program_runs.proofs.Parts.{parts-joined}
 use Rattle.flowcheck_cli.specs.CheckLines.{AreOutcomes, outcome_lines, outcome_line, status_of}
 use Rattle.graph_text.specs.declared.block.Block.{Block}
-use Rattle.program_runs.specs.HandedBlocks.{IsHandedFor}
 use Rattle.flowcheck_cli.specs.Outcomes.{IsOutcome}
 use Rattle.flowcheck_cli.specs.ReportTexts.{report_texts, model_in, line_count}
 use Rattle.flowcheck_cli.specs.Run.{AreLines, AreFirstLines}
@@ -164,10 +164,6 @@ Wrote-same reports old new shown before now block wrote none rest mode number st
       adds = subst (Adds before now) (sym lines) wrote.adds;
     }
 
--- lines of some blocks are lines of the first ones of more
-first-more : (reports : List ℕ) (shown others : List TextBlock) (text : List ℕ) → AreLines reports shown text → AreFirstLines reports (shown ++ others) text
-first-more reports shown others text h = (length shown, subst (λ l. AreLines reports l text) (sym (take-append_seam shown others)) h)
-
 -- what was written
 pub Wrote-lines : (reports : List ℕ) (checking : Checking) (shown : List TextBlock) (before now : Option (List ℕ)) (wrote : Wrote reports checking shown before now) →
     AreLines reports shown (outcome_lines shown wrote.outcomes)
@@ -176,7 +172,7 @@ Wrote-lines reports checking shown before now wrote = (wrote.outcomes, record { 
 pub Wrote-first : (reports : List ℕ) (checking : Checking) (shown others : List TextBlock) (before now : Option (List ℕ)) →
     Wrote reports checking shown before now → WroteFirst reports (shown ++ others) before now
 Wrote-first reports checking shown others before now wrote =
-    (outcome_lines shown wrote.outcomes, first-more reports shown others (outcome_lines shown wrote.outcomes) (Wrote-lines reports checking shown before now wrote), wrote.adds)
+    (outcome_lines shown wrote.outcomes, first-more (λ l. AreLines reports l (outcome_lines shown wrote.outcomes)) shown others (Wrote-lines reports checking shown before now wrote), wrote.adds)
 
 -- a line that is cut off
 pub Wrote-cut : (reports : List ℕ) (old : Checking) (shown : List TextBlock) (before was now : Option (List ℕ)) (block : TextBlock) (text : List ℕ) (rest : List (List ℕ)) (outcome : Outcome) →
@@ -193,7 +189,7 @@ Wrote-cut reports old shown before was now block text rest outcome wrote is text
     (subst (λ at. IsOutcome old.mode block at text outcome) (sym checked.line_is) is) in
     let joined : outcome_lines (shown ++ block ∷ []) (wrote.outcomes ++ outcome ∷ []) ≡ (lines ++ take n piece) ++ drop n piece =
     lines-more (model_in reports) 1 shown (report_texts reports) wrote.outcomes block text rest outcome checked.outcomes_are left
-    ∙ ap (λ p. lines ++ p) (sym (take-append-drop n piece)) ∙ sym (append_assoc lines (take n piece) (drop n piece)) in
+    ∙ parts-joined lines piece n in
     let whole : AreLines reports (shown ++ block ∷ []) ((lines ++ take n piece) ++ drop n piece) = (
       wrote.outcomes ++ outcome ∷ [],
       record {
@@ -202,7 +198,7 @@ Wrote-cut reports old shown before was now block text rest outcome wrote is text
       },
     ) in
     let firsts : AreFirstLines reports (shown ++ block ∷ []) ((lines ++ take n piece) ++ drop n piece) =
-    subst (λ l. AreFirstLines reports l ((lines ++ take n piece) ++ drop n piece)) (append-nil (shown ++ block ∷ [])) (first-more reports (shown ++ block ∷ []) [] _ whole) in (
+    first-all (λ l. AreLines reports l ((lines ++ take n piece) ++ drop n piece)) (shown ++ block ∷ []) whole in (
       lines ++ take n piece,
       (drop n piece, firsts),
       Adds-then before was now lines (take n piece) wrote.adds adds.2,

@@ -1,16 +1,11 @@
 -- What a verdict comes to, step by step.
-use Rattle.std.proofs.Common.{◌≡◌, ◌≤◌, ◌<◌, ◌^◌, ℕ, List, arith, Result, Ok, Err, subst, sym, refl, inl, inr}
-use Rattle.std.specs.Prelude.{IfOk}
+use Rattle.std.proofs.Common.{◌≡◌, ◌≤◌, ◌<◌, ◌^◌, ℕ, List, arith, Result, Ok, subst, sym, refl, inl, inr}
 use Rattle.decomposition.specs.declared.Mode.{Mode}
 use Rattle.decomposition.specs.Instance.{Instance}
-use Rattle.graph_text.specs.Blocks.{TextBlock}
-use Rattle.graph_text.specs.Accepted.{IsAccepted}
-use Rattle.graph_text.specs.Reader.{handed}
 use Rattle.graph_text.specs.Reading.{read, instance_of}
 use Rattle.graph_text.specs.declared.block.Block.{Block}
 use Rattle.graph_text.specs.declared.block.RawGraph.{RawGraph}
 use Rattle.graph_text.specs.declared.refusal.Refusal.{Refusal}
-use Rattle.graph_text.proofs.Accepting.{graphs_are_accepted}
 use Rattle.path_report.specs.BadLines.{IsTextOf}
 use Rattle.path_report.specs.declared.report.Report.{Report}
 use Rattle.path_report.specs.declared.report.Body.{Body}
@@ -18,7 +13,7 @@ use Rattle.path_report.specs.declared.report.Body.TheVariants.{Refused, Solved a
 use Rattle.cert_check.specs.Verdict.{IsVerdictOn, IsShortBody, BodyFailsAt as ClaimFailsAt}
 use Rattle.cert_check.specs.declared.report.Verdict.{Verdict}
 use Rattle.cert_check.specs.declared.report.Verdict.TheVariants.{Yes, No}
-use Rattle.program_runs.specs.HandedBlocks.{IsHandedFor, labels_of}
+use Rattle.program_runs.specs.HandedBlocks.{labels_of}
 use Rattle.flowcheck_cli.specs.Outcomes.{NamesBlock, IsBodyVerdict, IsReportVerdict, IsBlockOutcome, outcome_of}
 use Rattle.flowcheck_cli.specs.Short.{IsSmall}
 use Rattle.flowcheck_cli.proofs.ReportSizes.{place-small}
@@ -61,15 +56,3 @@ pub outcome-of-verdict : (mode : Mode) (block : Block) (report : Report) (at : �
     IsReportVerdict mode block report v → IsBlockOutcome mode block at text (outcome_of at v)
 outcome-of-verdict mode block report at text Yes is says = (report, is, says)
 outcome-of-verdict mode block report at text (No n) is says = (report, is, (n, says, refl))
-
--- what follows from the equation with Ok holds on Ok
-on_ok : (r : Result RawGraph Refusal) (P : RawGraph → Type 0) → ((graph : RawGraph) → r ≡ Ok graph → P graph) → IfOk r P
-on_ok (Ok graph) P holds = holds graph refl
-on_ok (Err refusal) P holds = tt
-
--- the graph of a block that is handed out is accepted
-pub handed-accepted : (mode : Mode) (text : TextBlock) (block : Block) → IsHandedFor mode text block → IfOk block.body (IsAccepted mode)
-handed-accepted mode text block h =
-    let P : Block → Type 0 = λ b. IfOk b.body (IsAccepted mode) in
-    let here : P (handed mode text) = on_ok (read mode text) (IsAccepted mode) (λ graph e. graphs_are_accepted mode text graph h.is_block.no_feeds e) in
-    subst P h.is_handed here

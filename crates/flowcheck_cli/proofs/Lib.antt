@@ -1,7 +1,6 @@
 mod BadPlaces
 mod Judged
 mod Models
-mod Problems
 mod ReportSizes
 mod TextCuts
 pub mod Answering

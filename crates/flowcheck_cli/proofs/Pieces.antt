@@ -2,6 +2,7 @@
 use Rattle.std.proofs.Common.{◌≡◌, ◌≤◌, ◌<◌, ◌^◌, ◌+◌, ℕ, List, [], ◌++◌, length, take, Option, Result, Err, refl, sym, ap, subst, ◌∙◌, arith, inl, inr, append-nil, length-append}
 use Rattle.std.specs.Prelude.{◌⊎◌, IfOk}
 use Rattle.std.proofs.lemmas.List.{length-take-le}
+use Rattle.std.proofs.lemmas.Result.{IfOk-weaker}
 use Rattle.flow_io.specs.Outside.{Selected, Took, Puts, Rose, after_read}
 use Rattle.flow_io.specs.declared.status.Status.{Status}
 use Rattle.flow_io.specs.declared.status.Status.TheVariants.{Fault, Long}
@@ -10,14 +11,14 @@ use Rattle.flow_io.proofs.Causes.{Rose-before}
 use Rattle.graph_text.specs.Blocks.{blocks, complete}
 use Rattle.graph_text.specs.Reader.{IsNew}
 use Rattle.graph_text.specs.declared.reader.BlockReader.{BlockReader}
+use Rattle.program_runs.proofs.Inputs.{at-end}
 use Rattle.flowcheck_cli.specs.Carrying.{Carried}
 use Rattle.flowcheck_cli.specs.Checking.{IsUnbegun, WroteFirst, WroteBeginning, Printed, PrintedBeginning, Underway, EndsRight}
 use Rattle.flowcheck_cli.specs.Stops.{status_at}
 use Rattle.flowcheck_cli.specs.declared.checking.Checking.{Checking}
 use Rattle.flowcheck_cli.specs.declared.stop.Stop.{Stop}
 use Rattle.flowcheck_cli.specs.declared.stop.Stop.TheVariants.{Memory as OutOfMemory, Fault as Failed, Long as TooLong}
-use Rattle.flowcheck_cli.proofs.RunEnds.{right-fault, right-long, right-end, right-stop, underway-begins, ok_then, ended-fault}
-use Rattle.flowcheck_cli.proofs.Taken.{at-end}
+use Rattle.flowcheck_cli.proofs.RunEnds.{right-fault, right-long, right-end, right-stop, underway-begins, ended-fault}
 
 -- a run that took nothing yet
 pub carried-nothing : (reports : List ℕ) (checking : Checking) (reader : BlockReader) (first : Option (Option Selected)) (told : Option (List ℕ)) →
@@ -61,7 +62,7 @@ right-ended reports outcome status checking reader total first was last into n b
     (subst (Took first last) here (Took-more first was last bytes into n carried.took (omega (arith, none)) puts left))
     (at-end was last into n room none puts left)
     (omega (arith, carried.count, few))
-    (ok_then outcome _ (λ status. Printed bytes reports status before now) (λ status done. done bytes before carried.under) printed)
+    (IfOk-weaker outcome _ (λ status. Printed bytes reports status before now) (λ status done. done bytes before carried.under) printed)
     (λ e. memory e bytes before carried.under) (λ e. cut e bytes before carried.under) rises short)
 
 -- a run that found the end and answers a fault was stopped by one
@@ -71,7 +72,7 @@ pub ended-faulty : (reports : List ℕ) (outcome : Result Status Stop) (status :
     status ≡ Fault → outcome ≡ Err Failed
 ended-faulty reports outcome status checking reader total first was before told now carried is printed faulty =
     ended-fault reports outcome carried.bytes before now
-    (ok_then outcome _ (λ status. Printed carried.bytes reports status before now) (λ status done. done carried.bytes before carried.under) printed)
+    (IfOk-weaker outcome _ (λ status. Printed carried.bytes reports status before now) (λ status done. done carried.bytes before carried.under) printed)
     (sym is ∙ faulty)
 
 -- the run stopped within a piece

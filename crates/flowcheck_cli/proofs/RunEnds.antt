@@ -1,26 +1,26 @@
 -- What a run took of the graph text, and what it then wrote.
-use Rattle.std.proofs.Common.{◌≡◌, ◌≢◌, ◌≤◌, ◌<◌, ◌^◌, ◌+◌, ◌==◌, ℕ, List, [], ◌++◌, length, take, drop, false, Option, Result, Ok, Err, refl, sym, ap, subst, ◌∙◌, arith, inl, inr, append-nil, append_assoc, eq-eqb}
+use Rattle.std.proofs.Common.{◌≡◌, ◌⊎◌, ◌≢◌, ◌≤◌, ◌<◌, ◌^◌, ◌+◌, ◌==◌, ℕ, List, [], ◌++◌, length, take, drop, false, Option, Result, Ok, Err, refl, sym, ap, subst, ◌∙◌, arith, inl, inr, append-nil, eq-eqb}
 use Rattle.std.proofs.lemmas.Bool.{cond_both, cond-true, cond-false, eqb-true, false_from_ne_true}
-use Rattle.std.proofs.lemmas.List.{take-append-drop}
 use Rattle.std.specs.List.{list_any}
-use Rattle.std.specs.Prelude.{IfOk, OnErr, if◌then◌else◌, not}
+use Rattle.std.specs.Prelude.{IfOk, OnErr, not}
 use Rattle.flow_io.specs.Outside.{Selected, Took, Adds, AddsPrefix}
 use Rattle.flow_io.specs.declared.status.Status.{Status}
-use Rattle.flow_io.specs.declared.status.Status.TheVariants.{Clean, Partial, Refused, Words, Fault, Memory, Long}
+use Rattle.flow_io.specs.declared.status.Status.TheVariants.{Clean, Refused, Fault, Memory, Long}
 use Rattle.flow_io.proofs.Adding.{Adds-nothing, Adds-then}
 use Rattle.flow_io.proofs.Reading.{Took-nothing}
 use Rattle.graph_text.specs.Blocks.{TextBlock, blocks, complete}
 use Rattle.decomposition.specs.declared.Mode.{Mode}
 use Rattle.graph_text.specs.Reader.{IsNew}
 use Rattle.graph_text.specs.declared.reader.BlockReader.{BlockReader}
+use Rattle.program_runs.proofs.Parts.{parts-joined}
+use Rattle.program_runs.proofs.Statuses.{done-by}
 use Rattle.flowcheck_cli.specs.CheckLines.{IsPrinted, outcome_lines, counts_line, counts_line_if_other, status_of, status_of_all, is_yes, is_unread}
 use Rattle.flowcheck_cli.specs.ReportTexts.{report_texts, model_in}
-use Rattle.flowcheck_cli.specs.Run.{AreLines, BeginsPrinted}
+use Rattle.flowcheck_cli.specs.Run.{IsDone, AreLines, BeginsPrinted}
 use Rattle.flowcheck_cli.specs.Stops.{status_at}
 use Rattle.flowcheck_cli.specs.Checking.{IsUnbegun, Wrote, WroteAll, WroteFirst, WroteBeginning, Printed, PrintedBeginning, Underway, IsShort, EndsRight}
 use Rattle.flowcheck_cli.specs.Inputs.{IsAtEnd}
 use Rattle.flowcheck_cli.specs.declared.checking.Checking.{Checking}
-use Rattle.flowcheck_cli.specs.declared.outcome.Outcome.{Outcome}
 use Rattle.flowcheck_cli.specs.declared.stop.Stop.{Stop}
 use Rattle.flowcheck_cli.specs.declared.stop.Stop.TheVariants.{Memory as OutOfMemory, Fault as Failed, Long as TooLong}
 use Rattle.flowcheck_cli.proofs.Growing.{Wrote-nothing, Wrote-lines, last_number-blocks}
@@ -126,7 +126,7 @@ told-cut bytes reports checking before was now other wrote adds =
     let piece = counts_line checking.blocks texts in
     let n = adds.0 in
     let joined : (lines ++ take n piece) ++ drop n piece ≡ lines ++ counts_line_if_other all texts =
-    append_assoc lines (take n piece) (drop n piece) ∙ ap (λ p. lines ++ p) (take-append-drop n piece ∙ ap (λ k. counts_line k texts) count ∙ sym (counts_other all texts differ)) in
+    sym (parts-joined lines piece n) ∙ ap (λ p. lines ++ p) (ap (λ k. counts_line k texts) count ∙ sym (counts_other all texts differ)) in
     let whole : IsPrinted bytes reports wrote.outcomes ((lines ++ take n piece) ++ drop n piece) =
     record { outcomes_are = wrote.checked.outcomes_are; lines_are = joined } in
     let begins : BeginsPrinted bytes reports (lines ++ take n piece) = (drop n piece, wrote.outcomes, whole) in (
@@ -140,61 +140,57 @@ pub cut-printed : (bytes reports : List ℕ) (before now : Option (List ℕ)) �
 cut-printed bytes reports before now wrote = (wrote.0, inl wrote.1, wrote.2)
 
 -- a status of outcomes is that of a run that came to its end
-pub record IsOfOutcomes (status : Status) : Type 0 where
-  pub not_memory : status ≡ Memory → ⊥
-  pub not_fault : status ≡ Fault → ⊥
-  pub not_long : status ≡ Long → ⊥
-  pub not_words : status ≡ Words → ⊥
-
-clean : IsOfOutcomes Clean
-clean = record { not_memory = λ e. cc; not_fault = λ e. cc; not_long = λ e. cc; not_words = λ e. cc }
-
-partial : IsOfOutcomes Partial
-partial = record { not_memory = λ e. cc; not_fault = λ e. cc; not_long = λ e. cc; not_words = λ e. cc }
-
-refused : IsOfOutcomes Refused
-refused = record { not_memory = λ e. cc; not_fault = λ e. cc; not_long = λ e. cc; not_words = λ e. cc }
-
-of_outcomes : (outcomes : List Outcome) → IsOfOutcomes (status_of outcomes)
-of_outcomes outcomes =
-    let open' : Status = if list_any (λ outcome. not (is_yes outcome)) outcomes then Partial else Clean in
-    cond_both (list_any is_unread outcomes) Refused open' IsOfOutcomes (λ _. refused)
-    (λ _. cond_both (list_any (λ outcome. not (is_yes outcome)) outcomes) Partial Clean IsOfOutcomes (λ _. partial) (λ _. clean))
-
-Printed-status : (bytes reports : List ℕ) (status : Status) (before now : Option (List ℕ)) → Printed bytes reports status before now → IsOfOutcomes status
-Printed-status bytes reports status before now printed =
+Printed-done : (bytes reports : List ℕ) (status : Status) (before now : Option (List ℕ)) → Printed bytes reports status before now → IsDone status
+Printed-done bytes reports status before now printed =
     let outcomes = printed.1.0 in
-    subst IsOfOutcomes (sym printed.1.2)
-    (cond_both (length (blocks bytes) == length (report_texts reports)) (status_of outcomes) Refused IsOfOutcomes (λ _. of_outcomes outcomes) (λ _. refused))
+    subst IsDone (sym printed.1.2)
+    (cond_both (length (blocks bytes) == length (report_texts reports)) (status_of outcomes) Refused IsDone
+    (λ _. done-by (list_any is_unread outcomes) (list_any (λ outcome. not (is_yes outcome)) outcomes)) (λ _. tt))
 
--- a run that could not begin
-pub right-nothing : (reports : List ℕ) (first : Option (Option Selected)) (before : Option (List ℕ)) (rose : Type 0) → EndsRight reports Memory first first before before rose
-right-nothing reports first before rose = record {
-  bytes = [];
-  took = Took-nothing first;
-  most = omega arith;
-  not_words = λ e. absurd (let no' : ⊥ = cc in no');
-  done = λ h. absurd h;
-  long = λ e. absurd (let no' : ⊥ = cc in no');
-  fault = λ e. absurd (let no' : ⊥ = cc in no');
-  written = λ e _. absurd (let no' : ⊥ = cc in no');
-  memory = λ _. inl ([], (0, ([], record { outcomes_are = refl; lines_are = refl })), Adds-nothing before);
-}
-
--- a run whose read failed
-pub right-fault : (reports : List ℕ) (checking : Checking) (reader : BlockReader) (bytes : List ℕ) (first last : Option (Option Selected)) (before now : Option (List ℕ)) (rose : Type 0) →
-    Took first last bytes → length bytes ≤ 2 ^ 30 → Underway reports checking reader bytes before now → EndsRight reports Fault first last before now rose
-right-fault reports checking reader bytes first last before now rose took most under = record {
+-- a run that wanted memory
+right-memory : (reports bytes : List ℕ) (first last : Option (Option Selected)) (before now : Option (List ℕ)) (rose : Type 0) →
+    Took first last bytes → length bytes ≤ 2 ^ 30 → (WroteFirst reports (complete bytes) before now ⊎ (IsAtEnd last × WroteFirst reports (blocks bytes) before now)) →
+    EndsRight reports Memory first last before now rose
+right-memory reports bytes first last before now rose took most wrote = record {
   bytes = bytes;
   took = took;
   most = most;
   not_words = λ e. absurd (let no' : ⊥ = cc in no');
   done = λ h. absurd h;
   long = λ e. absurd (let no' : ⊥ = cc in no');
-  fault = λ _. inl (First-beginning reports (complete bytes) before now (underway-first reports checking reader bytes before now under));
-  written = λ _ _. Wrote-all reports checking (complete bytes) before now under.wrote;
+  fault = λ e. absurd (let no' : ⊥ = cc in no');
+  written = λ e _. absurd (let no' : ⊥ = cc in no');
+  memory = λ _. wrote;
+}
+
+-- a run that met a fault
+right-failed : (reports bytes : List ℕ) (first last : Option (Option Selected)) (before now : Option (List ℕ)) (rose : Type 0) →
+    Took first last bytes → length bytes ≤ 2 ^ 30 → (WroteBeginning reports (complete bytes) before now ⊎ (IsAtEnd last × PrintedBeginning bytes reports before now)) → ((rose → ⊥) → WroteAll reports (complete bytes) before now) →
+    EndsRight reports Fault first last before now rose
+right-failed reports bytes first last before now rose took most begins written = record {
+  bytes = bytes;
+  took = took;
+  most = most;
+  not_words = λ e. absurd (let no' : ⊥ = cc in no');
+  done = λ h. absurd h;
+  long = λ e. absurd (let no' : ⊥ = cc in no');
+  fault = λ _. begins;
+  written = λ _. written;
   memory = λ e. absurd (let no' : ⊥ = cc in no');
 }
+
+-- a run that could not begin
+pub right-nothing : (reports : List ℕ) (first : Option (Option Selected)) (before : Option (List ℕ)) (rose : Type 0) → EndsRight reports Memory first first before before rose
+right-nothing reports first before rose =
+    right-memory reports [] first first before before rose (Took-nothing first) (omega arith) (inl ([], (0, ([], record { outcomes_are = refl; lines_are = refl })), Adds-nothing before))
+
+-- a run whose read failed
+pub right-fault : (reports : List ℕ) (checking : Checking) (reader : BlockReader) (bytes : List ℕ) (first last : Option (Option Selected)) (before now : Option (List ℕ)) (rose : Type 0) →
+    Took first last bytes → length bytes ≤ 2 ^ 30 → Underway reports checking reader bytes before now → EndsRight reports Fault first last before now rose
+right-fault reports checking reader bytes first last before now rose took most under =
+    right-failed reports bytes first last before now rose took most
+    (inl (First-beginning reports (complete bytes) before now (underway-first reports checking reader bytes before now under)))
+    (λ _. Wrote-all reports checking (complete bytes) before now under.wrote)
 
 -- a run that came to its limit
 pub right-long : (reports : List ℕ) (checking : Checking) (reader : BlockReader) (bytes : List ℕ) (first last : Option (Option Selected)) (before now : Option (List ℕ)) (rose : Type 0) →
@@ -218,40 +214,22 @@ pub right-end : (reports : List ℕ) (outcome : Result Status Stop) (bytes : Lis
     (outcome ≡ Err Failed → PrintedBeginning bytes reports before now) → (outcome ≡ Err Failed → rose) → (outcome ≡ Err TooLong → ⊥) →
     EndsRight reports (status_at outcome) first last before now rose
 right-end reports (Ok status) bytes first last before now rose took end few printed memory cut rises short =
-    let is = Printed-status bytes reports status before now printed in
+    let done = Printed-done bytes reports status before now printed in
     record {
       bytes = bytes;
       took = took;
       most = omega arith;
-      not_words = λ e. absurd (is.not_words e);
+      not_words = λ e. absurd (subst IsDone e done);
       done = λ _. (end, few, printed);
-      long = λ e. absurd (is.not_long e);
-      fault = λ e. absurd (is.not_fault e);
-      written = λ e _. absurd (is.not_fault e);
-      memory = λ e. absurd (is.not_memory e);
+      long = λ e. absurd (subst IsDone e done);
+      fault = λ e. absurd (subst IsDone e done);
+      written = λ e _. absurd (subst IsDone e done);
+      memory = λ e. absurd (subst IsDone e done);
     }
-right-end reports (Err OutOfMemory) bytes first last before now rose took end few printed memory cut rises short = record {
-  bytes = bytes;
-  took = took;
-  most = omega arith;
-  not_words = λ e. absurd (let no' : ⊥ = cc in no');
-  done = λ h. absurd h;
-  long = λ e. absurd (let no' : ⊥ = cc in no');
-  fault = λ e. absurd (let no' : ⊥ = cc in no');
-  written = λ e _. absurd (let no' : ⊥ = cc in no');
-  memory = λ _. inr (end, memory refl);
-}
-right-end reports (Err Failed) bytes first last before now rose took end few printed memory cut rises short = record {
-  bytes = bytes;
-  took = took;
-  most = omega arith;
-  not_words = λ e. absurd (let no' : ⊥ = cc in no');
-  done = λ h. absurd h;
-  long = λ e. absurd (let no' : ⊥ = cc in no');
-  fault = λ _. inr (end, cut refl);
-  written = λ _ quiet. absurd (quiet (rises refl));
-  memory = λ e. absurd (let no' : ⊥ = cc in no');
-}
+right-end reports (Err OutOfMemory) bytes first last before now rose took end few printed memory cut rises short =
+    right-memory reports bytes first last before now rose took (omega (arith, few)) (inr (end, memory refl))
+right-end reports (Err Failed) bytes first last before now rose took end few printed memory cut rises short =
+    right-failed reports bytes first last before now rose took (omega (arith, few)) (inr (end, cut refl)) (λ quiet. absurd (quiet (rises refl)))
 right-end reports (Err TooLong) bytes first last before now rose took end few printed memory cut rises short = absurd (short refl)
 
 -- a run that stopped within a piece
@@ -260,40 +238,15 @@ pub right-stop : (reports : List ℕ) (stop : Stop) (status : Status) (bytes : L
     (stop ≡ OutOfMemory → WroteFirst reports (complete bytes) before now) → (stop ≡ Failed → WroteBeginning reports (complete bytes) before now) → (stop ≡ Failed → rose) → (stop ≡ TooLong → ⊥) →
     EndsRight reports status first last before now rose
 right-stop reports OutOfMemory status bytes first last before now rose took most is memory cut rises short =
-    subst (λ st. EndsRight reports st first last before now rose) (sym is) (record {
-      bytes = bytes;
-      took = took;
-      most = most;
-      not_words = λ e. absurd (let no' : ⊥ = cc in no');
-      done = λ h. absurd h;
-      long = λ e. absurd (let no' : ⊥ = cc in no');
-      fault = λ e. absurd (let no' : ⊥ = cc in no');
-      written = λ e _. absurd (let no' : ⊥ = cc in no');
-      memory = λ _. inl (memory refl);
-    })
+    subst (λ st. EndsRight reports st first last before now rose) (sym is) (right-memory reports bytes first last before now rose took most (inl (memory refl)))
 right-stop reports Failed status bytes first last before now rose took most is memory cut rises short =
-    subst (λ st. EndsRight reports st first last before now rose) (sym is) (record {
-      bytes = bytes;
-      took = took;
-      most = most;
-      not_words = λ e. absurd (let no' : ⊥ = cc in no');
-      done = λ h. absurd h;
-      long = λ e. absurd (let no' : ⊥ = cc in no');
-      fault = λ _. inl (cut refl);
-      written = λ _ quiet. absurd (quiet (rises refl));
-      memory = λ e. absurd (let no' : ⊥ = cc in no');
-    })
+    subst (λ st. EndsRight reports st first last before now rose) (sym is) (right-failed reports bytes first last before now rose took most (inl (cut refl)) (λ quiet. absurd (quiet (rises refl))))
 right-stop reports TooLong status bytes first last before now rose took most is memory cut rises short = absurd (short refl)
-
--- what follows from what holds on Ok
-pub ok_then : {T E : Type 0} (r : Result T E) (P Q : T → Type 0) → ((x : T) → P x → Q x) → IfOk r P → IfOk r Q
-ok_then (Ok x) P Q follows holds = follows x holds
-ok_then (Err e) P Q follows holds = tt
 
 -- a run that ended with a fault was stopped by one
 pub ended-fault : (reports : List ℕ) (outcome : Result Status Stop) (bytes : List ℕ) (before now : Option (List ℕ)) →
     IfOk outcome (λ status. Printed bytes reports status before now) → status_at outcome ≡ Fault → outcome ≡ Err Failed
-ended-fault reports (Ok status) bytes before now printed is = absurd ((Printed-status bytes reports status before now printed).not_fault is)
+ended-fault reports (Ok status) bytes before now printed is = absurd (subst IsDone is (Printed-done bytes reports status before now printed))
 ended-fault reports (Err OutOfMemory) bytes before now printed is = absurd (let no' : ⊥ = cc in no')
 ended-fault reports (Err Failed) bytes before now printed is = refl
 ended-fault reports (Err TooLong) bytes before now printed is = absurd (let no' : ⊥ = cc in no')

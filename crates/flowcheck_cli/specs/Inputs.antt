@@ -1,6 +1,6 @@
 -- What was read of an input.
 pub use Rattle.program_runs.specs.Inputs.{Seen, WhereSeen, left_of, bytes_without, taken, IsAtEnd}
-use Rattle.std.specs.Prelude.{◌≡◌, ℕ, ◌-◌, ◌^◌, ◌≤◌, List, ◌++◌, length, Option, IfSome}
+use Rattle.std.specs.Prelude.{◌≡◌, ℕ, ◌^◌, ◌≤◌, List, ◌++◌, length, Option, IfSome}
 use Rattle.flow_io.specs.Outside.{Selected}
 
 -- the bytes taken are the first ones that the input holds, and at most 2^30

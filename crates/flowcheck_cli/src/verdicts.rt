@@ -1,22 +1,17 @@
 //! Whether a report is right for a block, and which of its lines is the first that is wrong.
-ghost use Rattle.std.specs.Prelude.{◌≡◌, ◌<◌, ◌^◌, length, Ok, Err, IfOk, IsTrue, MatchBool};
-ghost use Rattle.std.specs.List.{list_all};
-ghost use Rattle.decomposition.specs.Graph.{is_run};
-ghost use Rattle.decomposition.specs.Instance.{greatest_hi};
+ghost use Rattle.std.specs.Prelude.{◌≡◌, Ok, Err, IfOk, MatchBool};
 ghost use Rattle.decomposition.specs.declared.Mode.{Mode as AMode};
 ghost use Rattle.graph_text.specs.Accepted.{IsAccepted};
-ghost use Rattle.subpath_rules.specs.Rules.{AreRulesOf};
 ghost use Rattle.cert_check.specs.Verdict.{IsShortBody};
 ghost use Rattle.flowcheck_cli.specs.Outcomes.{NamesBlock, NamesOther, IsBodyVerdict, IsReportVerdict};
 ghost use Rattle.flowcheck_cli.specs.Short.{IsSmall};
 
 use cert_check::{Verdict, check_report};
-use dag_net::{Mode, Ranges};
-use flow_models::Problem;
+use dag_net::Mode;
 use graph_text::{Block, RawGraph, Refusal};
 use path_report::{Body, Report};
+use program_runs::problem_of;
 use std::alloc::{AllocError, Global};
-use subpath_rules::{RuleFault, Rules};
 
 /// What a report is for a block and the model for reading. Lines are counted in the text of the report.
 pub fn verdict_on(
@@ -75,24 +70,4 @@ fn verdict_on_graph(
 {
     let problem = problem_of(alloc, graph)?;
     check_report(alloc, &graph.net, &problem, &mode, report)
-}
-
-/// The problem of a graph.
-fn problem_of(alloc: Global, graph: &RawGraph) -> Result<Problem, AllocError>
-    requires runs { IsTrue (list_all (is_run graph.now.net) graph.now.runs) }
-    requires few { length graph.now.runs < 2 ^ 32 }
-    ensures ranges { IfOk result (λ problem. problem.ranges ≡ graph.now.ranges) }
-    ensures rules { IfOk result (λ problem. AreRulesOf graph.now.net graph.now.runs problem.rules) }
-    ensures cap { IfOk result (λ problem. problem.cap ≡ greatest_hi problem.ranges) }
-{
-    let mut ranges = Ranges::new(alloc);
-    for &range in graph.ranges.as_slice() {
-        ranges.push(range)?;
-    }
-    let rules = match Rules::build(alloc, &graph.net, &graph.runs) {
-        Ok(rules) => rules,
-        Err(RuleFault::Memory) => return Err(AllocError),
-        Err(RuleFault::NotARun { index: _ }) => unreachable!(),
-    };
-    Ok(Problem::new(&graph.net, ranges, rules))
 }

@@ -1,33 +1,16 @@
 -- A run over a text between two parts of it, and how it goes on.
-use Rattle.std.proofs.Common.{◌≡◌, ◌≤◌, ◌+◌, ◌^◌, ◌<◌, ℕ, false, List, [], ◌++◌, length, take, drop, None, refl, sym, ap, subst, ◌∙◌, arith, length-append, append-nil}
+use Rattle.std.proofs.Common.{◌≡◌, ◌≤◌, ◌^◌, ◌<◌, ℕ, false, List, [], ◌++◌, length, take, drop, refl, sym, ap, subst, ◌∙◌, arith, length-append, append-nil}
 use Rattle.std.proofs.lemmas.List.{take-append-drop}
 use Rattle.graph_text.specs.Blocks.{TextBlock, blocks, complete}
 use Rattle.graph_text.specs.Reader.{Feeds, Ends, IsNew, IsTaken, mode_of, waiting_of, has_failed, has_finished}
 use Rattle.graph_text.specs.declared.reader.BlockReader.{BlockReader}
 use Rattle.graph_text.proofs.Growing.{complete-grows, blocks-begin}
-use Rattle.flow_io.specs.declared.status.Status.{Status}
+use Rattle.program_runs.proofs.HandedBlocks.{grows-feed, grows-end}
 use Rattle.flowpaths_cli.specs.declared.settings.Settings.{Settings}
 use Rattle.flowpaths_cli.specs.declared.tally.Tally.{Tally}
 use Rattle.flowpaths_cli.specs.Generated.{IsTallied, Counting}
-use Rattle.flowpaths_cli.specs.Reporting.{Underway, AreHandedFor}
-use Rattle.flowpaths_cli.specs.Right.{status_of}
+use Rattle.flowpaths_cli.specs.Reporting.{AreHandedFor}
 use Rattle.flowpaths_cli.specs.Tally.{tally_of}
-use Rattle.flowpaths_cli.proofs.Underways.{grows-feed, grows-end}
-
--- the run as one that tells no output
-pub as-underway : (s : Settings) (reader : BlockReader) (bytes : List ℕ) (t : Tally) → Counting s reader bytes t → (status : Status) × Underway s reader bytes status None None
-as-underway s reader bytes t counting =
-    let made = counting.tallied in (
-      status_of made.reports,
-      record {
-        stands = counting.stands;
-        none_waits = counting.none_waits;
-        works = counting.works;
-        goes_on = counting.goes_on;
-        mode_is = counting.mode_is;
-        wrote = (made.text, (made.reports, made.right, refl), refl);
-      },
-    )
 
 -- nothing was taken yet
 pub counting-nothing : (s : Settings) (reader : BlockReader) (t : Tally) → IsNew s.mode reader → t ≡ tally_of [] → Counting s reader [] t
@@ -46,8 +29,7 @@ pub counting-more : (s : Settings) (first fed last : BlockReader) (bytes piece :
     ((waiting : List TextBlock) → AreHandedFor s.mode waiting (waiting_of fed) → (shown : List TextBlock) → IsTallied s shown old → IsTallied s (shown ++ waiting) new) →
     Counting s last (bytes ++ take n piece) new
 counting-more s first fed last bytes piece n old new counting feeds works goes mode taken done =
-    let under = as-underway s first bytes old counting in
-    let g = grows-feed s first fed bytes piece n under.0 None None feeds under.1 in
+    let g = grows-feed s.mode first fed bytes piece n feeds counting.mode_is in
     record {
       stands = taken.stands (bytes ++ take n piece) feeds.stands;
       none_waits = taken.none;
@@ -62,8 +44,7 @@ pub counting-end : (s : Settings) (old new : BlockReader) (bytes : List ℕ) (t 
     ((waiting : List TextBlock) → AreHandedFor s.mode waiting (waiting_of new) → (shown : List TextBlock) → IsTallied s shown t → IsTallied s (shown ++ waiting) last) →
     IsTallied s (blocks bytes) last
 counting-end s old new bytes t last counting ends done =
-    let under = as-underway s old bytes t counting in
-    let g = grows-end s old new bytes under.0 None None ends under.1 in
+    let g = grows-end s.mode old new bytes ends counting.mode_is in
     subst (λ l. IsTallied s l last) (sym g.joined) (done g.waiting g.handed (complete bytes) counting.tallied)
 
 -- the complete blocks of a part of a text are some of its blocks

@@ -1,33 +1,17 @@
 -- What holds of a block that is handed out for a block of a text.
-use Rattle.std.proofs.Common.{◌≡◌, ◌≤◌, ◌<◌, ◌^◌, ◌&&◌, Result, Ok, Err, IsTrue, refl, subst}
-use Rattle.std.specs.Prelude.{IfOk, IfErr, nat_le}
+use Rattle.std.proofs.Common.{◌≤◌, ◌<◌, ◌^◌, ◌&&◌, IsTrue, subst}
+use Rattle.std.specs.Prelude.{IfErr, nat_le}
 use Rattle.std.proofs.lemmas.Bool.{and_from, le-leb, lt-ltb}
 use Rattle.decomposition.specs.declared.Mode.{Mode}
 use Rattle.graph_text.specs.Blocks.{TextBlock}
-use Rattle.graph_text.specs.Accepted.{IsAccepted}
 use Rattle.graph_text.specs.Labels.{LabelLists}
 use Rattle.graph_text.specs.Reader.{handed}
-use Rattle.graph_text.specs.Reading.{read}
 use Rattle.graph_text.specs.declared.block.Block.{Block}
-use Rattle.graph_text.specs.declared.block.RawGraph.{RawGraph}
-use Rattle.graph_text.specs.declared.refusal.Refusal.{Refusal}
-use Rattle.graph_text.proofs.Accepting.{graphs_are_accepted}
 use Rattle.graph_text.proofs.RefusedLines.{refusal-line}
 use Rattle.path_report.specs.ReportText.{is_mode, is_regular, is_regular_body, is_name, fits}
 use Rattle.path_report.specs.declared.report.Body.{Body}
 use Rattle.path_report.proofs.BlockNames.{is_name-name_of}
 use Rattle.flowpaths_cli.specs.Reporting.{IsHandedFor}
-
--- what follows from the equation with Ok holds on Ok
-on_ok : (r : Result RawGraph Refusal) (P : RawGraph → Type 0) → ((graph : RawGraph) → r ≡ Ok graph → P graph) → IfOk r P
-on_ok (Ok graph) P holds = holds graph refl
-on_ok (Err refusal) P holds = tt
-
-pub handed-accepted : (mode : Mode) (text : TextBlock) (block : Block) → IsHandedFor mode text block → IfOk block.body (IsAccepted mode)
-handed-accepted mode text block h =
-    let P : Block → Type 0 = λ b. IfOk b.body (IsAccepted mode) in
-    let here : P (handed mode text) = on_ok (read mode text) (IsAccepted mode) (λ graph e. graphs_are_accepted mode text graph h.is_block.no_feeds e) in
-    subst P h.is_handed here
 
 pub handed-refusal : (mode : Mode) (text : TextBlock) (block : Block) → IsHandedFor mode text block → IfErr block.body (λ r. 1 ≤ r.line)
 handed-refusal mode text block h =

@@ -18,7 +18,6 @@ pub mod Thinning
 pub mod Halving
 pub mod Widening
 pub mod LeastError
-pub mod Problems
 pub mod Facts
 pub mod Rising
 pub mod WordNumbers

@@ -1,7 +1,5 @@
 -- Outputs that grow by one report after another.
-use Rattle.std.proofs.Common.{◌≡◌, ℕ, List, [], ◌∷◌, ◌++◌, length, take, drop, Option, IsTrue, refl, sym, ◌∙◌, ap, subst, append_assoc, append-nil}
-use Rattle.std.proofs.lemmas.List.{take-append-drop}
-use Rattle.std.proofs.Math.Seq.{take-append_seam}
+use Rattle.std.proofs.Common.{◌≡◌, ℕ, List, [], ◌∷◌, ◌++◌, take, drop, Option, IsTrue, refl, sym, ◌∙◌, ap, subst, append_assoc, append-nil}
 use Rattle.flow_io.specs.Outside.{Adds, AddsPrefix}
 use Rattle.flow_io.specs.declared.status.Status.{Status}
 use Rattle.flow_io.proofs.Adding.{Adds-nothing, Adds-then}
@@ -12,6 +10,8 @@ use Rattle.graph_text.specs.declared.block.Block.{Block}
 use Rattle.path_report.specs.ReportText.{is_regular, text_of}
 use Rattle.path_report.specs.declared.report.Body.{Body}
 use Rattle.path_report.specs.declared.report.Report.{Report}
+use Rattle.program_runs.proofs.FirstBlocks.{first-more, first-all}
+use Rattle.program_runs.proofs.Parts.{parts-joined}
 use Rattle.flowpaths_cli.specs.declared.settings.Settings.{Settings}
 use Rattle.flowpaths_cli.specs.Right.{BodyRight, labels_of, IsTextOf, IsReportOf, status_of}
 use Rattle.flowpaths_cli.specs.Run.{AreReports, IsOutput, IsFirstOutput}
@@ -49,10 +49,6 @@ reports-more s (first ∷ blocks) [] text block report more h one = absurd h
 reports-more s (first ∷ blocks) (other ∷ reports) text block report more h one =
     (h.0, h.1 ++ more, ap (λ t. t ++ more) h.2 ∙ append_assoc h.0 h.1 more, h.3, reports-more s blocks reports h.1 block report more h.4 one)
 
--- an output for some blocks is one for the first ones of more
-first-more : (s : Settings) (blocks others : List TextBlock) (text : List ℕ) → IsOutput s blocks text → IsFirstOutput s (blocks ++ others) text
-first-more s blocks others text h = (length blocks, subst (λ l. IsOutput s l text) (sym (take-append_seam blocks others)) h)
-
 -- nothing was written yet
 pub Wrote-nothing : (s : Settings) (told : Option (List ℕ)) → Wrote s [] (status_of []) told told
 Wrote-nothing s told = ([], ([], refl, refl), Adds-nothing told)
@@ -74,7 +70,7 @@ Wrote-more s shown status after before old new block report piece wrote is_repor
 pub Wrote-first : (s : Settings) (shown others : List TextBlock) (status : Status) (before now : Option (List ℕ)) →
     Wrote s shown status before now → WroteFirst s (shown ++ others) before now
 Wrote-first s shown others status before now wrote =
-    (wrote.0, first-more s shown others wrote.0 (wrote.1.0, wrote.1.1), wrote.2)
+    (wrote.0, first-more (λ l. IsOutput s l wrote.0) shown others (wrote.1.0, wrote.1.1), wrote.2)
 
 -- a report that is cut off
 pub Wrote-cut : (s : Settings) (shown : List TextBlock) (status : Status) (before old new : Option (List ℕ)) (block : TextBlock) (report : Report) (piece : List ℕ) →
@@ -84,12 +80,10 @@ Wrote-cut s shown status before old new block report piece wrote is_report adds 
     let n = adds.0 in
     let whole : AreReports s (shown ++ block ∷ []) (wrote.1.0 ++ report ∷ []) (text ++ piece) =
     reports-more s shown wrote.1.0 text block report piece wrote.1.1 is_report in
-    let joined : text ++ piece ≡ (text ++ take n piece) ++ drop n piece =
-    ap (λ p. text ++ p) (sym (take-append-drop n piece)) ∙ sym (append_assoc text (take n piece) (drop n piece)) in
     let reports : IsOutput s (shown ++ block ∷ []) ((text ++ take n piece) ++ drop n piece) =
-    (wrote.1.0 ++ report ∷ [], subst (λ t. AreReports s (shown ++ block ∷ []) (wrote.1.0 ++ report ∷ []) t) joined whole) in
+    (wrote.1.0 ++ report ∷ [], subst (λ t. AreReports s (shown ++ block ∷ []) (wrote.1.0 ++ report ∷ []) t) (parts-joined text piece n) whole) in
     let firsts : IsFirstOutput s (shown ++ block ∷ []) ((text ++ take n piece) ++ drop n piece) =
-    subst (λ l. IsFirstOutput s l ((text ++ take n piece) ++ drop n piece)) (append-nil (shown ++ block ∷ [])) (first-more s (shown ++ block ∷ []) [] _ reports) in (
+    first-all (λ l. IsOutput s l ((text ++ take n piece) ++ drop n piece)) (shown ++ block ∷ []) reports in (
       text ++ take n piece,
       (drop n piece, firsts),
       Adds-then before old new text (take n piece) wrote.2 adds.2,

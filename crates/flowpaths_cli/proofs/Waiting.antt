@@ -1,18 +1,13 @@
 -- The block that waits, and what is written of it.
 use Rattle.std.proofs.Common.{◌≡◌, ℕ, List, [], ◌∷◌, ◌++◌, Option, Some, Result, Ok, Err, sym, subst}
 use Rattle.std.specs.Prelude.{IfOk}
-use Rattle.decomposition.specs.declared.Mode.{Mode}
 use Rattle.flow_io.specs.declared.status.Status.{Status}
 use Rattle.graph_text.specs.Blocks.{TextBlock}
 use Rattle.graph_text.specs.declared.block.Block.{Block}
+use Rattle.program_runs.proofs.HandedBlocks.{one_handed}
 use Rattle.flowpaths_cli.specs.declared.settings.Settings.{Settings}
 use Rattle.flowpaths_cli.specs.declared.stop.Stop.{Stop}
 use Rattle.flowpaths_cli.specs.Reporting.{Wrote, WroteBeginning, IsHandedFor, AreHandedFor}
-
--- where a block waits, it is handed out for one block
-one_handed : (mode : Mode) (waiting : List TextBlock) (told : Option Block) (block : Block) → told ≡ Some block → AreHandedFor mode waiting told →
-    (text : TextBlock) × (waiting ≡ text ∷ []) × IsHandedFor mode text block
-one_handed mode waiting told block is handed = subst (AreHandedFor mode waiting) is handed
 
 -- what is said of the one block is said of the list of those that wait
 pub done-waiting : (s : Settings) (result : Result Status Stop) (told : Option Block) (block : Block) (status : Status) (old new : Option (List ℕ)) → told ≡ Some block →

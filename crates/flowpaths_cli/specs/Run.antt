@@ -2,7 +2,7 @@
 pub use Rattle.program_runs.specs.Inputs.{Seen, WhereSeen, left_of, bytes_without, taken, IsDone}
 pub use Rattle.program_runs.specs.Writing.{WhereWritten, Notes}
 pub use Rattle.program_runs.specs.HandedBlocks.{blocks_at}
-use Rattle.std.specs.Prelude.{◌≡◌, ◌≢◌, ℕ, ◌-◌, ◌^◌, ◌<◌, ◌≤◌, List, [], ◌∷◌, ◌++◌, length, take, Some, IfSome, codes}
+use Rattle.std.specs.Prelude.{◌≡◌, ◌≢◌, ℕ, ◌^◌, ◌<◌, ◌≤◌, List, [], ◌∷◌, ◌++◌, length, take, Some, IfSome, codes}
 use Rattle.flow_io.specs.declared.status.Status.{Status}
 use Rattle.flow_io.specs.declared.status.Status.TheVariants.{Clean, Partial, Refused, Words, Fault, Memory, Long}
 use Rattle.graph_text.specs.Blocks.{TextBlock, blocks, complete}

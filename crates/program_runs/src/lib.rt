@@ -1,2 +1,6 @@
-//! What both programs say of a run: what was read of an input, what was written, and which blocks were handed out. Definitions alone.
+//! What both programs share: the words for a run (definitions), and the problem of a graph.
 #![tactic(auto)]
+
+mod problem;
+
+pub use problem::problem_of;

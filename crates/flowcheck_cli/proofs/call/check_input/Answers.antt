@@ -1,6 +1,6 @@
 use Rattle.std.proofs.Common.{refl, ◌∙◌, inl, inr}
-use Rattle.flowcheck_cli.proofs.Accounts.{ok_at, err_at}
-use Rattle.flowcheck_cli.proofs.Taken.{told-same}
+use Rattle.program_runs.proofs.Inputs.{told-same}
+use Rattle.program_runs.proofs.Results.{ok_at, err_at}
 use Rattle.flowcheck_cli.proofs.call.check_input.Goals as goal
 
 pub returns-then-is_err-clause-right : goal.returns-then-is_err-clause-right

@@ -2,9 +2,11 @@ use Rattle.std.proofs.Common.{◌≡◌, ◌-◌, ◌++◌, Err, length, take, d
 use Rattle.std.proofs.lemmas.List.{length-take-le, take_all, take_rest}
 use Rattle.std.proofs.lemmas.Result.{err_from_is_err_and}
 use Rattle.graph_text.specs.Blocks.{complete}
+use Rattle.program_runs.proofs.HandedBlocks.{handed-some, grows-feed, feeds-some, line-within}
+use Rattle.program_runs.proofs.Parts.{parts-joined, parts-more}
 use Rattle.flowcheck_cli.specs.declared.stop.Stop.TheVariants.{Memory, Fault}
 use Rattle.flowcheck_cli.specs.Checking.{Underway, WroteFirst}
-use Rattle.flowcheck_cli.proofs.Underways.{handed-some, grows-feed, feeds-some, line-within, underway-more, underway-first, WroteFirst-goes_on, parts-joined, parts-more, cut-goes_on}
+use Rattle.flowcheck_cli.proofs.Underways.{underway-more, underway-first, WroteFirst-goes_on, cut-goes_on}
 use Rattle.flowcheck_cli.proofs.checking.check_piece.Goals as goal
 
 pub feed-requires-clause-goes_on : goal.feed-requires-clause-goes_on
@@ -18,7 +20,7 @@ feed-requires-clause-lines_fit g c works =
     let under = c.loop-done.invariant.under first.0 bytes first.2 first.4 in
     omega (
       arith,
-      line-within _ _ c.loop-done.reader _ _ _ under,
+      line-within c.loop-done.reader _ under.stands,
       first.3,
       c.requires.piece_short,
       c.loop-done.invariant.within,
@@ -38,7 +40,7 @@ pub check_waiting-requires-clause-handed : goal.check_waiting-requires-clause-ha
 check_waiting-requires-clause-handed g c =
     let first = c.requires.underway in
     let under = c.loop-done.invariant.under first.0 first.1 first.2 first.4 in
-    let grown = grows-feed first.0 c.loop-done.checking c.loop-done.reader c.feed.new.self _ _ _ _ _ (c.in_ok-done.ensures.feeds under.none_waits _ under.stands) under in
+    let grown = grows-feed c.loop-done.checking.mode c.loop-done.reader c.feed.new.self _ _ _ (c.in_ok-done.ensures.feeds under.none_waits _ under.stands) under.mode_is in
     handed-some c.loop-done.checking.mode grown.waiting _ grown.handed
 
 pub returns-in_err-check_waiting-clause-memory : goal.returns-in_err-check_waiting-clause-memory

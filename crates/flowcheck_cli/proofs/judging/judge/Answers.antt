@@ -1,11 +1,12 @@
 use Rattle.std.proofs.Common.{◌≤◌, subst, sym, ap, ◌+◌, arith, length}
 use Rattle.path_report.specs.BadLines.{first_bad_line, RefusesAs}
 use Rattle.path_report.specs.declared.read_fault.ReadRefusal.{ReadRefusal}
-use Rattle.flowcheck_cli.proofs.BadPlaces.{bad-place}
 use Rattle.program_runs.specs.HandedBlocks.{labels_of}
+use Rattle.program_runs.proofs.HandedBlocks.{handed-accepted}
+use Rattle.flowcheck_cli.proofs.BadPlaces.{bad-place}
 use Rattle.flowcheck_cli.specs.Outcomes.{IsBlockOutcome}
 use Rattle.graph_text.specs.declared.block.Block.{Block}
-use Rattle.flowcheck_cli.proofs.Judged.{handed-accepted, outcome-of-verdict}
+use Rattle.flowcheck_cli.proofs.Judged.{outcome-of-verdict}
 use Rattle.flowcheck_cli.proofs.ReportSizes.{report-short}
 use Rattle.flowcheck_cli.proofs.judging.judge.Goals as goal
 

@@ -6,7 +6,7 @@ use Rattle.graph_text.specs.Reading.{instance_of}
 use Rattle.cert_check.specs.Verdict.{IsVerdictOn}
 use Rattle.flowcheck_cli.specs.Outcomes.{IsBodyVerdict}
 use Rattle.flowcheck_cli.specs.Short.{IsSmall}
-use Rattle.flowcheck_cli.proofs.Problems.{problem_is}
+use Rattle.program_runs.proofs.Problems.{problem_is}
 use Rattle.flowcheck_cli.proofs.Judged.{graph-verdict-of, graph-small}
 use Rattle.flowcheck_cli.proofs.verdicts.verdict_on_graph.Goals as goal
 

@@ -1,6 +1,8 @@
 use Rattle.std.proofs.Common.{◌∙◌, subst}
 use Rattle.flow_io.specs.Outside.{Starts}
-use Rattle.flowpaths_cli.proofs.Accounts.{reads-right, writes-right, told-same, ok_at, err_at, unselected-reads, unselected-writes}
+use Rattle.program_runs.proofs.Inputs.{told-same}
+use Rattle.program_runs.proofs.Results.{ok_at, err_at}
+use Rattle.flowpaths_cli.proofs.Accounts.{reads-right, writes-right, unselected-reads, unselected-writes}
 use Rattle.flowpaths_cli.proofs.call.run_input.Goals as goal
 
 pub returns-clause-reads : goal.returns-clause-reads

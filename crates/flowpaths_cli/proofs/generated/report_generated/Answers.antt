@@ -1,5 +1,5 @@
 use Rattle.std.proofs.Common.{◌∙◌}
-use Rattle.flowpaths_cli.proofs.Accounts.{ok_at, err_at}
+use Rattle.program_runs.proofs.Results.{ok_at, err_at}
 use Rattle.flowpaths_cli.proofs.GeneratedRuns.{writes-nothing, writes-beginning, writes-all, ends-solved}
 use Rattle.flowpaths_cli.proofs.generated.report_generated.Goals as goal
 

@@ -1,5 +1,6 @@
 use Rattle.std.proofs.Common.{arith, refl}
-use Rattle.flowpaths_cli.proofs.Handed.{handed-accepted, handed-refusal, handed-regular}
+use Rattle.program_runs.proofs.HandedBlocks.{handed-accepted}
+use Rattle.flowpaths_cli.proofs.Handed.{handed-refusal, handed-regular}
 use Rattle.flowpaths_cli.proofs.Reports.{report_is}
 use Rattle.flowpaths_cli.proofs.Tallies.{tallied-within, paths-few, tallied-more}
 use Rattle.flowpaths_cli.proofs.generated.tally_block.Goals as goal

@@ -1,7 +1,7 @@
 use Rattle.std.proofs.lemmas.Result.{on_ok_weaker}
 use Rattle.graph_text.specs.Blocks.{complete}
-use Rattle.flowpaths_cli.proofs.Underways.{handed-some, grows-end}
-use Rattle.flowpaths_cli.proofs.Countings.{as-underway, counting-end}
+use Rattle.program_runs.proofs.HandedBlocks.{handed-some, grows-end}
+use Rattle.flowpaths_cli.proofs.Countings.{counting-end}
 use Rattle.flowpaths_cli.proofs.generated.tally_end.Goals as goal
 
 pub finish-requires-clause-goes_on : goal.finish-requires-clause-goes_on
@@ -13,8 +13,7 @@ finish-requires-clause-none_waits c = c.requires.counting.2.none_waits
 pub tally_waiting-requires-clause-handed : goal.tally_waiting-requires-clause-handed
 tally_waiting-requires-clause-handed c =
     let run = c.requires.counting in
-    let under = as-underway c.args.settings.now c.args.reader.now run.0 c.args.tally.now run.2 in
-    let grown = grows-end c.args.settings.now c.args.reader.now c.finish.new.self run.0 _ _ _ (c.in_ok-finish.ensures.ends run.0 run.2.stands) under.1 in
+    let grown = grows-end c.args.settings.now.mode c.args.reader.now c.finish.new.self run.0 (c.in_ok-finish.ensures.ends run.0 run.2.stands) run.2.mode_is in
     handed-some c.args.settings.now.mode grown.waiting _ grown.handed
 
 pub tally_waiting-requires-clause-tallied : goal.tally_waiting-requires-clause-tallied

@@ -1,9 +1,10 @@
 use Rattle.std.proofs.Common.{◌≡◌, ◌-◌, [], length, take, drop, ap, subst, ◌∙◌, arith, length-drop}
 use Rattle.std.proofs.lemmas.List.{length-take-le, take_all, take_rest}
 use Rattle.graph_text.specs.Blocks.{complete}
+use Rattle.program_runs.proofs.HandedBlocks.{handed-some, grows-feed, feeds-some, line-within}
+use Rattle.program_runs.proofs.Parts.{parts-more}
 use Rattle.flowpaths_cli.specs.Generated.{Counting}
-use Rattle.flowpaths_cli.proofs.Underways.{handed-some, grows-feed, feeds-some, line-within, parts-more}
-use Rattle.flowpaths_cli.proofs.Countings.{as-underway, counting-more, few-in-part}
+use Rattle.flowpaths_cli.proofs.Countings.{counting-more, few-in-part}
 use Rattle.flowpaths_cli.proofs.generated.tally_pieces.Goals as goal
 
 pub loop-done-init : goal.loop-done-init
@@ -14,10 +15,9 @@ feed-requires-clause-goes_on c = c.loop-done.invariant.1.goes_on
 
 pub feed-requires-clause-lines_fit : goal.feed-requires-clause-lines_fit
 feed-requires-clause-lines_fit c works =
-    let under = as-underway c.args.settings.now c.loop-done.reader _ _ c.loop-done.invariant.1 in
     omega (
       arith,
-      line-within _ c.loop-done.reader _ _ _ _ under.1,
+      line-within c.loop-done.reader _ c.loop-done.invariant.1.stands,
       c.requires.short,
       c.loop-done.invariant.0,
       length-take-le c.loop-done.done c.args.text.now c.loop-done.invariant.0,
@@ -28,8 +28,7 @@ feed-requires-clause-lines_fit c works =
 pub tally_waiting-requires-clause-handed : goal.tally_waiting-requires-clause-handed
 tally_waiting-requires-clause-handed c =
     let counting = c.loop-done.invariant.1 in
-    let under = as-underway c.args.settings.now c.loop-done.reader _ _ counting in
-    let grown = grows-feed c.args.settings.now c.loop-done.reader c.feed.new.self _ _ _ _ _ _ (c.in_ok-done.ensures.feeds counting.none_waits _ counting.stands) under.1 in
+    let grown = grows-feed c.args.settings.now.mode c.loop-done.reader c.feed.new.self _ _ _ (c.in_ok-done.ensures.feeds counting.none_waits _ counting.stands) counting.mode_is in
     handed-some c.args.settings.now.mode grown.waiting _ grown.handed
 
 pub tally_waiting-requires-clause-tallied : goal.tally_waiting-requires-clause-tallied

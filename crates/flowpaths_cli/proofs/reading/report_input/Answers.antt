@@ -1,12 +1,14 @@
 use Rattle.std.proofs.Common.{◌≡◌, ◌<◌, ◌+◌, ◌++◌, [], Err, length, take, refl, sym, ap, subst, ◌∙◌, arith, inr, append-nil, length-append, length-take}
 use Rattle.std.proofs.lemmas.List.{length-take-le}
+use Rattle.std.proofs.lemmas.Result.{IfOk-weaker}
 use Rattle.flow_io.specs.Outside.{Took, Rose}
 use Rattle.flow_io.proofs.Reading.{Took-nothing, Took-more}
 use Rattle.flow_io.proofs.Causes.{Rose-before}
 use Rattle.graph_text.specs.Blocks.{blocks}
+use Rattle.program_runs.proofs.Inputs.{at-end}
 use Rattle.flowpaths_cli.specs.declared.stop.Stop.TheVariants.{Fault as Failed}
 use Rattle.flowpaths_cli.specs.Reporting.{EndsRight, Wrote}
-use Rattle.flowpaths_cli.proofs.Inputs.{right-nothing, right-fault, right-long, right-end, right-stop, underway-nothing, at-end, ok_then, ended-fault, stopped-fault}
+use Rattle.flowpaths_cli.proofs.Inputs.{right-nothing, right-fault, right-long, right-end, right-stop, underway-nothing, ended-fault, stopped-fault}
 use Rattle.flowpaths_cli.proofs.reading.report_input.Goals as goal
 
 pub returns-in_default-clause-right : goal.returns-in_default-clause-right
@@ -40,7 +42,7 @@ returns-then-count-eq0-clause-right g c =
     (Took-more _ _ _ run.0 c.read.new.into c.in-Ok-read.count run.2 c.in-Ok-read.ensures.count c.in-Ok-read.ensures.bytes c.in-Ok-read.ensures.left))
     (at-end _ _ c.read.new.into c.in-Ok-read.count room none c.in-Ok-read.ensures.bytes c.in-Ok-read.ensures.left)
     (omega (arith, run.1, c.loop-total-test.true))
-    (ok_then c.report_end.result _ (λ after. Wrote c.args.settings.now (blocks run.0) after (g.O.Output.written c.args.out.now) (g.O.Output.written c.report_end.new.out))
+    (IfOk-weaker c.report_end.result _ (λ after. Wrote c.args.settings.now (blocks run.0) after (g.O.Output.written c.args.out.now) (g.O.Output.written c.report_end.new.out))
     (λ after done. done run.0 (g.O.Output.written c.args.out.now) run.3) c.report_end.ensures.done)
     (λ is. c.report_end.ensures.memory is run.0 _ run.3) (λ is. c.report_end.ensures.cut is run.0 _ run.3)
     (λ is. Rose-before _ _ _ c.loop-total.invariant.3 (c.report_end.ensures.fault is)))
@@ -49,7 +51,7 @@ pub returns-then-count-eq0-clause-fault : goal.returns-then-count-eq0-clause-fau
 returns-then-count-eq0-clause-fault g c faulty =
     let run = c.loop-total.invariant.0 in
     let stopped : c.report_end.result ≡ Err Failed = ended-fault c.args.settings.now c.report_end.result (blocks run.0) (g.O.Output.written c.args.out.now) (g.O.Output.written c.report_end.new.out)
-    (ok_then c.report_end.result _ (λ after. Wrote c.args.settings.now (blocks run.0) after (g.O.Output.written c.args.out.now) (g.O.Output.written c.report_end.new.out))
+    (IfOk-weaker c.report_end.result _ (λ after. Wrote c.args.settings.now (blocks run.0) after (g.O.Output.written c.args.out.now) (g.O.Output.written c.report_end.new.out))
     (λ after done. done run.0 (g.O.Output.written c.args.out.now) run.3) c.report_end.ensures.done)
     (sym c.status_at.ensures ∙ faulty) in
     inr (Rose-before _ _ _ c.loop-total.invariant.3 (c.report_end.ensures.fault stopped))

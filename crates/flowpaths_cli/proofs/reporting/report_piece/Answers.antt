@@ -2,9 +2,11 @@ use Rattle.std.proofs.Common.{◌≡◌, ◌-◌, ◌++◌, Err, length, take, d
 use Rattle.std.proofs.lemmas.List.{length-take-le, take_all, take_rest}
 use Rattle.std.proofs.lemmas.Result.{err_from_is_err_and}
 use Rattle.graph_text.specs.Blocks.{complete}
+use Rattle.program_runs.proofs.HandedBlocks.{handed-some, grows-feed, feeds-some, line-within}
+use Rattle.program_runs.proofs.Parts.{parts-joined, parts-more}
 use Rattle.flowpaths_cli.specs.declared.stop.Stop.TheVariants.{Memory, Fault}
 use Rattle.flowpaths_cli.specs.Reporting.{Underway, WroteFirst}
-use Rattle.flowpaths_cli.proofs.Underways.{handed-some, grows-feed, feeds-some, line-within, underway-more, underway-first, WroteFirst-goes_on, parts-joined, parts-more, cut-goes_on}
+use Rattle.flowpaths_cli.proofs.Underways.{underway-more, underway-first, WroteFirst-goes_on, cut-goes_on}
 use Rattle.flowpaths_cli.proofs.reporting.report_piece.Goals as goal
 
 pub feed-requires-clause-goes_on : goal.feed-requires-clause-goes_on
@@ -17,7 +19,7 @@ feed-requires-clause-lines_fit g c works =
     let under = c.loop-done.invariant.1 bytes c.requires.underway.1 c.requires.underway.3 in
     omega (
       arith,
-      line-within _ c.loop-done.reader _ _ _ _ under,
+      line-within c.loop-done.reader _ under.stands,
       c.requires.underway.2,
       c.requires.short,
       c.loop-done.invariant.0,
@@ -36,7 +38,7 @@ returns-in_err-done-clause-memory g c stopped bytes before under =
 pub report_waiting-requires-clause-handed : goal.report_waiting-requires-clause-handed
 report_waiting-requires-clause-handed g c =
     let under = c.loop-done.invariant.1 c.requires.underway.0 c.requires.underway.1 c.requires.underway.3 in
-    let grown = grows-feed c.args.settings.now c.loop-done.reader c.feed.new.self _ _ _ _ _ _ (c.in_ok-done.ensures.feeds under.none_waits _ under.stands) under in
+    let grown = grows-feed c.args.settings.now.mode c.loop-done.reader c.feed.new.self _ _ _ (c.in_ok-done.ensures.feeds under.none_waits _ under.stands) under.mode_is in
     handed-some c.args.settings.now.mode grown.waiting _ grown.handed
 
 pub returns-in_err-status-clause-memory : goal.returns-in_err-status-clause-memory

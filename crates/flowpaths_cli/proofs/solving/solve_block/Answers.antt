@@ -7,7 +7,8 @@ use Rattle.flow_models.specs.Problem.{instance}
 use Rattle.graph_text.specs.Reading.{instance_of}
 use Rattle.path_report.proofs.Lawful.{found_is_regular}
 use Rattle.flowpaths_cli.specs.Right.{SolvedRight}
-use Rattle.flowpaths_cli.proofs.Problems.{if_ok, problem_is}
+use Rattle.std.proofs.lemmas.Result.{IfOk-weaker}
+use Rattle.program_runs.proofs.Problems.{problem_is}
 use Rattle.flowpaths_cli.proofs.solving.solve_block.Goals as goal
 
 pub solve_exact-requires-clause-valid : goal.solve_exact-requires-clause-valid
@@ -37,7 +38,7 @@ solve_least_error-requires-clause-few_rules c =
 pub returns-in-Exact-clause-regular : goal.returns-in-Exact-clause-regular
 returns-in-Exact-clause-regular c =
     let graph = c.args.graph.now in
-    if_ok c.solve_exact.result (λ solved found. found_is_regular graph.net graph.labels solved (sym c.requires.valid.edges) (sym c.requires.valid.vertices) found) c.solve_exact.ensures.found
+    IfOk-weaker c.solve_exact.result _ _ (λ solved found. found_is_regular graph.net graph.labels solved (sym c.requires.valid.edges) (sym c.requires.valid.vertices) found) c.solve_exact.ensures.found
 
 pub returns-in-Exact-clause-right : goal.returns-in-Exact-clause-right
 returns-in-Exact-clause-right c =
@@ -48,7 +49,7 @@ returns-in-Exact-clause-right c =
 pub returns-in-Interval-clause-regular : goal.returns-in-Interval-clause-regular
 returns-in-Interval-clause-regular c =
     let graph = c.args.graph.now in
-    if_ok c.solve_interval.result (λ solved found. found_is_regular graph.net graph.labels solved (sym c.requires.valid.edges) (sym c.requires.valid.vertices) found) c.solve_interval.ensures.found
+    IfOk-weaker c.solve_interval.result _ _ (λ solved found. found_is_regular graph.net graph.labels solved (sym c.requires.valid.edges) (sym c.requires.valid.vertices) found) c.solve_interval.ensures.found
 
 pub returns-in-Interval-clause-right : goal.returns-in-Interval-clause-right
 returns-in-Interval-clause-right c =
@@ -59,7 +60,7 @@ returns-in-Interval-clause-right c =
 pub returns-clause-regular : goal.returns-clause-regular
 returns-clause-regular c =
     let graph = c.args.graph.now in
-    if_ok c.solve_least_error.result (λ solved found. found_is_regular graph.net graph.labels solved (sym c.requires.valid.edges) (sym c.requires.valid.vertices) found) c.solve_least_error.ensures.found
+    IfOk-weaker c.solve_least_error.result _ _ (λ solved found. found_is_regular graph.net graph.labels solved (sym c.requires.valid.edges) (sym c.requires.valid.vertices) found) c.solve_least_error.ensures.found
 
 pub returns-clause-right : goal.returns-clause-right
 returns-clause-right c =

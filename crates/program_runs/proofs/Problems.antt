@@ -1,6 +1,6 @@
 -- The problem of a graph stands for its instance.
 use Rattle.std.proofs.Common.{◌≡◌, ◌==◌, ℕ, List, [], ◌∷◌, false, not, refl, ap, ap₂, ◌∙◌}
-use Rattle.std.specs.Prelude.{filter, IfOk, Result, Ok, Err}
+use Rattle.std.specs.Prelude.{filter}
 use Rattle.std.specs.List.{AllByRecursion, IsDistinct}
 use Rattle.std.specs.Cmp.Lexicographic.{pointwise}
 use Rattle.decomposition.specs.declared.Range.{Range}
@@ -27,8 +27,3 @@ pub problem_is : (graph : RawGraph) (p : Problem) → IsDistinct (pointwise (λ 
 problem_is graph p once ranges rules =
     let are : p.rules ≡ graph.runs = rules.rules_are ∙ distinct-same graph.runs once in
     ap₂ (λ (rs : List Range) (us : List (List ℕ)). let i : Instance = record { graph = graph.net; ranges = rs; rules = us } in i) ranges are
-
--- what follows of a result, where there is one
-pub if_ok : {X E : Type 0} {P Q : X → Type 0} (r : Result X E) → ((x : X) → P x → Q x) → IfOk r P → IfOk r Q
-if_ok (Ok x) follows holds = follows x holds
-if_ok (Err e) follows holds = tt
