@@ -1,13 +1,14 @@
--- Paths that are added to the booked ones only lower the error.
-use Rattle.std.proofs.Common.{◌≡◌, ℕ, ◌+◌, ◌*◌, ◌≤◌, ◌<◌, ◌&&◌, nat_le, nat_lt, cond, max, true, List, [], ◌∷◌, ◌++◌, length, slice_index, slice_index_or, sym, ap, subst, ◌∙◌, append_assoc, refl, inl, inr, arith, le-leb, ltb-true}
+-- Paths that are added to the booked ones are the widest of what is left, and only lower the error.
+use Rattle.std.proofs.Common.{◌≡◌, ℕ, zero, suc, ◌+◌, ◌-◌, ◌*◌, ◌≤◌, ◌<◌, ◌&&◌, nat_le, nat_lt, cond, max, true, List, [], ◌∷◌, ◌++◌, length, length-append, slice_index, slice_index_or, sym, ap, subst, ◌∙◌, append_assoc, refl, inl, inr, arith, le-leb, ltb-true}
 use Rattle.std.specs.Prelude.{All}
-use Rattle.std.proofs.lemmas.Bool.{and_from, cases_Bool}
-use Rattle.std.proofs.lemmas.List.{append-nil}
+use Rattle.std.proofs.lemmas.Bool.{and_from, cases_Bool, cases_lt}
+use Rattle.std.proofs.lemmas.List.{append-nil, get_or_past}
 use Rattle.std.proofs.lemmas.List.Sums.{sum_by-le}
 use Rattle.decomposition.specs.declared.Mode.TheVariants.{Abs}
 use Rattle.decomposition.specs.Answer.{Covers, HaveSamePaths, IsAnswer, IsInReportOrder, IsMerged, total_weight, weight_on}
 use Rattle.decomposition.specs.FirstAnswer.{IsWidest, path_width}
-use Rattle.decomposition.specs.Graph.{Graph, edge_count, has_edge, is_path}
+use Rattle.decomposition.specs.Flow.{rest_after}
+use Rattle.decomposition.specs.Graph.{Graph, IsPath, edge_count, has_edge, is_path}
 use Rattle.decomposition.specs.Instance.{Instance, IsInstance, distance, error, range}
 use Rattle.decomposition.proofs.FewPaths.{Covers-append, all-append, weight_on-append}
 use Rattle.decomposition.proofs.FirstAnswers.{merged_least}
@@ -20,23 +21,90 @@ use Rattle.greedy_paths.proofs.Decomposing.{path-enough, path-inside, path_width
 use Rattle.flowpaths_cli.specs.Booking.{upper_bound}
 use Rattle.flowpaths_cli.specs.Room.{IsLeftOf}
 use Rattle.flowpaths_cli.specs.Searched.{IsFoundFor, any_error}
-use Rattle.flowpaths_cli.specs.Widened.{IsWidened}
+use Rattle.flowpaths_cli.specs.Widened.{IsWidened, IsWidestFirstUpTo}
 use Rattle.flowpaths_cli.proofs.Attempts.{weight_on-le}
 use Rattle.flowpaths_cli.proofs.Beginnings.{both_same}
 use Rattle.flowpaths_cli.proofs.Bounded.{bounds, entries_small}
 use Rattle.flowpaths_cli.proofs.Halving.{booked_units}
 use Rattle.flowpaths_cli.proofs.PathsOnce.{paths_once}
 
+-- what is left may be told in other words
+widest-same : (g : Graph) (f h : ℕ → ℕ) (n : ℕ) (a : List (List ℕ × ℕ)) → ((e : ℕ) → f e ≡ h e) → IsWidestFirstUpTo g f n a → IsWidestFirstUpTo g h n a
+widest-same g f h n a same first = subst (λ r. IsWidestFirstUpTo g r n a) (λ i e. same e i) first
+
+-- a widest-first list goes on with that of what it leaves
+widest-goes_on : (g : Graph) (rest : ℕ → ℕ) (a more : List (List ℕ × ℕ)) (m k : ℕ) → IsWidestFirstUpTo g rest (length a) a → IsWidestFirstUpTo g (λ e. rest e - weight_on a e) m more → k ≡ length a + m
+    → IsWidestFirstUpTo g rest k (a ++ more)
+widest-goes_on g rest [] more m k first after is =
+    let all : m ≡ k = omega (arith, is) in
+    subst (λ n. IsWidestFirstUpTo g rest n more) all (widest-same g (λ e. rest e - 0) rest m more (λ e. omega arith) after)
+widest-goes_on g rest (x ∷ a) more m zero first after is = absurd (omega (arith, is))
+widest-goes_on g rest (x ∷ a) more m (suc k) (widest, width, first) after is =
+    let left = rest_after rest x.0 x.1 in (
+      widest,
+      width,
+      widest-goes_on g left a more m k first (widest-same g (λ e. rest e - weight_on (x ∷ a) e) (λ e. left e - weight_on a e) m more (λ e. omega arith) after) (omega (arith, is)),
+    )
+
+-- where no path is left, it is empty
+widest-none : (g : Graph) (rest : ℕ → ℕ) (n : ℕ) → ((p : List ℕ) → IsPath g p → path_width rest p ≡ 0) → IsWidestFirstUpTo g rest n []
+widest-none g rest zero none = refl
+widest-none g rest (suc n) none = none
+
 -- the paths so far, and what they put on each edge
 pub record IsWidening (g : Graph) (weights : List ℕ) (booked a : List (List ℕ × ℕ)) (sums : List ℕ) : Type 0 where
-  pub widened : IsWidened g (slice_index weights) booked a
+  pub widened : IsWidened g (slice_index weights) booked (length a) a
   pub units : AreUnits g a sums
 
 pub IsWidening-start : (g : Graph) (weights : List ℕ) (booked : List (List ℕ × ℕ)) (units : List ℕ) → IsAnswer g booked → AreUnits g booked units → IsWidening g weights booked booked units
 IsWidening-start g weights booked units answer counts = record {
-  widened = record { others = []; begins = sym (append-nil booked); answer = answer; most = λ e inside. omega arith };
+  widened = record {
+    others = [];
+    begins = sym (append-nil booked);
+    answer = answer;
+    most = λ e inside. omega arith;
+    widest = let none : 0 ≡ length booked - length booked = omega arith in subst (λ n. IsWidestFirstUpTo g (λ e. slice_index weights e - weight_on booked e) n []) none refl;
+  };
   units = counts;
 }
+
+module _ (g : Graph) (weights : List ℕ) (booked a : List (List ℕ × ℕ)) (sums left : List ℕ) (one_each : length weights ≡ edge_count g) (are : IsLeftOf (length weights) weights sums left) (so_far : IsWidening g weights booked a sums) where
+  -- what is left is what the others leave of what the booked paths leave
+  left_is : (e : ℕ) → slice_index left e ≡ (slice_index weights e - weight_on booked e) - weight_on so_far.widened.others e
+  left_is e =
+      elim (cases_lt e (length weights)) [
+        | inl inside ↦
+            omega (
+              arith,
+              are.each e inside,
+              so_far.units.each e (omega (arith, inside, one_each)),
+              ap (λ xs. weight_on xs e) so_far.widened.begins,
+              weight_on-append booked so_far.widened.others e,
+            )
+        | inr past ↦ omega (arith, get_or_past left e 0 (omega (arith, past, are.count)), get_or_past weights e 0 past)
+      ]
+
+  -- the others go on with the widest-first list of what is left
+  widest-more : (n m : ℕ) (more : List (List ℕ × ℕ)) → IsWidestFirstUpTo g (slice_index left) m more → n ≡ length a + m
+      → IsWidestFirstUpTo g (λ e. slice_index weights e - weight_on booked e) (n - length booked) (so_far.widened.others ++ more)
+  widest-more n m more after is =
+      let rest : ℕ → ℕ = λ e. slice_index weights e - weight_on booked e in
+      let others = so_far.widened.others in
+      let count : length a ≡ length booked + length others = ap length so_far.widened.begins ∙ length-append booked others in
+      let first : IsWidestFirstUpTo g rest (length others) others = subst (λ l. IsWidestFirstUpTo g rest l others) (omega (arith, count)) so_far.widened.widest in
+      widest-goes_on g rest others more m (n - length booked) first (widest-same g (slice_index left) (λ e. rest e - weight_on others e) m more left_is after) (omega (arith, is, count))
+
+  -- the paths are all where no path is left
+  pub IsWidened-none : (k : ℕ) → length a ≤ k → ((p : List ℕ) → IsPath g p → path_width (slice_index left) p ≡ 0) → IsWidened g (slice_index weights) booked k a
+  IsWidened-none k few none = record {
+    others = so_far.widened.others;
+    begins = so_far.widened.begins;
+    answer = so_far.widened.answer;
+    most = so_far.widened.most;
+    widest =
+        subst (IsWidestFirstUpTo g (λ e. slice_index weights e - weight_on booked e) (k - length booked)) (append-nil so_far.widened.others)
+        (widest-more k (k - length a) [] (widest-none g (slice_index left) (k - length a) none) (omega (arith, few)));
+  }
 
 module _ (g : Graph) (weights : List ℕ) (a : List (List ℕ × ℕ)) (sums left path : List ℕ) (width : ℕ) (one_each : length weights ≡ edge_count g) (are : IsLeftOf (length weights) weights sums left)
     (widest : IsWidest g (slice_index left) path) (is : width ≡ path_width (slice_index left) path) where
@@ -71,11 +139,14 @@ module _ (g : Graph) (weights : List ℕ) (a : List (List ℕ × ℕ)) (sums lef
             begins = ap (λ xs. xs ++ (path, width) ∷ []) so_far.widened.begins ∙ append_assoc booked so_far.widened.others ((path, width) ∷ []);
             answer = all-append (λ (entry : List ℕ × ℕ). is_path g entry.0 && nat_le 1 entry.1) a ((path, width) ∷ []) so_far.widened.answer (all-cons (λ (entry : List ℕ × ℕ). is_path g entry.0 && nat_le 1 entry.1) (path, width) [] good refl);
             most = λ e inside. (more-fits e inside).0;
+            widest =
+                widest-more g weights booked a sums left one_each are so_far (length (a ++ (path, width) ∷ [])) 1 ((path, width) ∷ []) (widest, is, refl)
+                (length-append a ((path, width) ∷ []));
           };
           units = record { count = count ∙ so_far.units.count; each = λ e inside. (more-fits e inside).1 };
         }
 
-module _ (k : ℕ) (i : Instance) (f : ℕ → ℕ) (booked a : List (List ℕ × ℕ)) (valid : IsInstance (Abs k) i) (same : (e : ℕ) → f e ≡ upper_bound i e) (widened : IsWidened i.graph f booked a) where
+module _ (k : ℕ) (i : Instance) (f : ℕ → ℕ) (booked a : List (List ℕ × ℕ)) (valid : IsInstance (Abs k) i) (same : (e : ℕ) → f e ≡ upper_bound i e) (widened : IsWidened i.graph f booked k a) where
   -- the error is no greater than that of the booked paths
   pub widened_nearer : error i a ≤ error i booked
   widened_nearer =

@@ -23,7 +23,7 @@ pub fn with_widest(
     requires answer { IsAnswer net.now booked }
     requires units { IsTrue (list_all (λ entry. entry.1 == 1) booked) }
     requires fits { length booked ≤ k }
-    ensures widened { IfOk result (IsWidened net.now (slice_index weights.now) booked) }
+    ensures widened { IfOk result (IsWidened net.now (slice_index weights.now) booked k) }
     ensures few { IfOk result (λ a. length a ≤ k) }
 {
     let mut sums = units_on(alloc, net, &booked)?;

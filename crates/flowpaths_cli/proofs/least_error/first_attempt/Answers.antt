@@ -24,9 +24,9 @@ booked c =
     subst (λ (ws : List ℕ). AreBooked c.args.net.now (slice_index ws) c.args.problem.now.rules c.in_ok-booked.booked) (c.deref.ensures.value ∙ c.in_ok-weights.ensures) c.in_ok-booked.ensures.booked
 
 -- the paths that are added to the booked ones
-widened : (c : In_ok-paths) → IsWidened c.args.net.now (slice_index (lows c.args.problem.now.ranges)) c.in_ok-booked.booked c.in_ok-paths.paths
+widened : (c : In_ok-paths) → IsWidened c.args.net.now (slice_index (lows c.args.problem.now.ranges)) c.in_ok-booked.booked c.args.k c.in_ok-paths.paths
 widened c =
-    subst (λ (ws : List ℕ). IsWidened c.args.net.now (slice_index ws) c.in_ok-booked.booked c.in_ok-paths.paths) (c.deref-then-len-k.ensures.value ∙ c.in_ok-weights.ensures) c.in_ok-paths.ensures.widened
+    subst (λ (ws : List ℕ). IsWidened c.args.net.now (slice_index ws) c.in_ok-booked.booked c.args.k c.in_ok-paths.paths) (c.deref-then-len-k.ensures.value ∙ c.in_ok-weights.ensures) c.in_ok-paths.ensures.widened
 
 pub book-requires-clause-small : goal.book-requires-clause-small
 book-requires-clause-small c =

@@ -1,15 +1,16 @@
--- The widest path of what is left fits under the weights.
+-- The widest path of what is left is added, and fits under the weights.
 use Rattle.std.proofs.Common.{◌≡◌, ◌≢◌, ℕ, ◌+◌, ◌<◌, ◌^◌, List, [], ◌∷◌, ◌++◌, cond, length, length-append, slice_index, slice_index_or, sym, ap, subst, arith}
 use Rattle.std.specs.Prelude.{All, AllPairs}
 use Rattle.std.specs.Vec.{with_items}
 use Rattle.std.proofs.lemmas.List.{with_items_is}
 use Rattle.decomposition.specs.FirstAnswer.{IsWidest, path_width}
-use Rattle.decomposition.specs.Graph.{has_edge}
+use Rattle.decomposition.specs.Graph.{IsPath, has_edge}
 use Rattle.greedy_paths.proofs.Decomposing.{path-inside, path-once}
 use Rattle.flowpaths_cli.specs.Room.{IsLeftOf}
-use Rattle.flowpaths_cli.proofs.Widening.{IsWidening, IsWidening-more, width-fits_under}
+use Rattle.flowpaths_cli.specs.Widened.{IsWidened}
+use Rattle.flowpaths_cli.proofs.Widening.{IsWidened-none, IsWidening, IsWidening-more, width-fits_under}
 use Rattle.flowpaths_cli.proofs.widened.with_widest.Goals as goal
-use Rattle.flowpaths_cli.proofs.widened.with_widest.Goals.{After-as_slice, After-add_along}
+use Rattle.flowpaths_cli.proofs.widened.with_widest.Goals.{After-as_slice, After-add_along, else-loop-alloc-test, then-loop-alloc-test+in_ok-left+in_ok-path+in_default}
 
 -- the path is the widest of what is left of the weights
 found : (c : After-as_slice) → IsWidest c.args.net.now (slice_index c.in_ok-left.left.items) c.in-Some.path × (c.in-Some.width ≡ path_width (slice_index c.in_ok-left.left.items) c.in-Some.path)
@@ -68,3 +69,20 @@ loop-alloc-preserved c =
           (subst (IsWidening g ws booked (paths ++ (c.in-Some.path, c.in-Some.width) ∷ [])) (sym items) more),
       omega (arith, ap length c.in_ok-push.ensures.ok, length-append paths ((c.in-Some.path, c.in-Some.width) ∷ []), c.len.ensures.len),
     )
+
+-- there are k paths, or no path is left
+pub returns-clause-widened : goal.returns-clause-widened
+returns-clause-widened c =
+    let g = c.args.net.now in
+    let ws = c.args.weights.now in
+    let booked = c.args.booked in
+    let paths = c.loop-alloc.paths in
+    elim c.loop-alloc-test.branch [
+      | else-loop-alloc-test w ↦
+          let all : length paths ≡ c.args.k = omega (arith, w.loop-alloc-test, c.len.ensures.len, c.loop-alloc.invariant.1) in
+          subst (λ k. IsWidened g (slice_index ws) booked k paths) all c.loop-alloc.invariant.0.widened
+      | then-loop-alloc-test+in_ok-left+in_ok-path+in_default w ↦
+          let are = subst (λ sums. IsLeftOf (length ws) ws sums w.in_ok-left.left.items) w.deref.ensures.value w.in_ok-left.ensures in
+          let none = subst (λ left. (p : List ℕ) → IsPath g p → path_width (slice_index left) p ≡ 0) w.deref-in-loop-alloc.ensures.value (rw w.in_default.is at w.in_ok-path.ensures.found) in
+          IsWidened-none g ws booked paths c.loop-alloc.sums.items w.in_ok-left.left.items c.requires.one_each are c.loop-alloc.invariant.0 c.args.k c.loop-alloc.invariant.1 none
+    ]
