@@ -21,6 +21,7 @@ pub mod LeastError
 pub mod Problems
 pub mod Facts
 pub mod Rising
+pub mod TakenApart
 pub mod WordNumbers
 pub mod Parsed
 pub mod OnWords
