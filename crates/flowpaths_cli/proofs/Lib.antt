@@ -20,6 +20,7 @@ pub mod Widening
 pub mod LeastError
 pub mod Facts
 pub mod Rising
+pub mod TakenApart
 pub mod WordNumbers
 pub mod Parsed
 pub mod OnWords

@@ -1,6 +1,6 @@
 -- Numbers that rise, with a larger one behind them.
 use Rattle.std.proofs.Common.{◌≡◌, ℕ, suc, ◌+◌, ◌<◌, ◌^◌, List, [], ◌∷◌, ◌++◌, true, nat_lt, length, length-append, get_or, refl, sym, subst, inl, inr, arith, lt-ltb}
-use Rattle.std.specs.Prelude.{All, OnOk, Result, Ok, Err}
+use Rattle.std.specs.Prelude.{All}
 use Rattle.std.proofs.Math.ListN.{get_or-append}
 use Rattle.std.proofs.Math.Seq.{get_or-append_seam}
 use Rattle.std.proofs.lemmas.Bool.{and_from, and_parts, cases_eq}
@@ -24,11 +24,9 @@ below-push xs n below k d there =
           omega (arith, below k d inside, get_or-append xs (n ∷ []) d k inside)
     ]
 
--- the same of a number that was pushed
-pub rises-pushed : {E : Type 0} (r : Result Unit E) (n : ℕ) (old new : List ℕ) → OnOk r (new ≡ old ++ n ∷ []) → RisesBelow n old → OnOk r (RisesBelow (n + 1) new)
-rises-pushed (Ok u) n old new is rises =
-    subst (RisesBelow (n + 1)) (sym is) (record { rising = rising-push old n rises.rising rises.below; below = below-push old n rises.below })
-rises-pushed (Err e) n old new is rises = tt
+-- what rises below a number, with that number behind it
+pub rises-push : (n : ℕ) (xs : List ℕ) → RisesBelow n xs → RisesBelow (n + 1) (xs ++ n ∷ [])
+rises-push n xs rises = record { rising = rising-push xs n rises.rising rises.below; below = below-push xs n rises.below }
 
 -- what rises below a number rises below the next
 pub rises-more : (n : ℕ) (xs : List ℕ) → RisesBelow n xs → RisesBelow (n + 1) xs
