@@ -1,5 +1,5 @@
 -- Where the searches for few paths begin: at a first answer, or at none where the booked paths do not fit.
-use Rattle.std.proofs.Common.{◌≡◌, ◌==◌, ℕ, ◌+◌, ◌≤◌, ◌<◌, List, [], ◌∷◌, Option, Some, None, true, cond, length, refl, sym, ap, ap₂, subst, ◌∙◌, arith, eqb-true}
+use Rattle.std.proofs.Common.{◌≡◌, ◌==◌, ℕ, ◌+◌, ◌≤◌, ◌<◌, List, [], ◌∷◌, Option, Some, None, true, length, refl, sym, ap, ap₂, subst, ◌∙◌, arith, eqb-true}
 use Rattle.std.specs.Prelude.{All, IfSome, IsSomeAnd, slice_index}
 use Rattle.std.specs.List.{list_all}
 use Rattle.std.proofs.lemmas.Grind.{get_or_default_zero, same_number_lists}
@@ -7,15 +7,15 @@ use Rattle.std.proofs.lemmas.List.{length-map}
 use Rattle.decomposition.specs.declared.Mode.{Mode}
 use Rattle.decomposition.specs.declared.Mode.TheVariants.{Exact, Interval, Abs}
 use Rattle.decomposition.specs.declared.Range.{Range}
-use Rattle.decomposition.specs.Graph.{Graph, IsNet, edge_count, head, tail}
+use Rattle.decomposition.specs.Graph.{Graph, IsNet, edge_count}
 use Rattle.decomposition.specs.Answer.{Covers, IsInReportOrder, weight_on}
 use Rattle.decomposition.specs.FirstAnswer.{with_unit}
-use Rattle.decomposition.specs.Flow.{Decomposes, IsBalanced}
+use Rattle.decomposition.specs.Flow.{Decomposes}
 use Rattle.decomposition.specs.Instance.{FitsModel, Instance, IsFlowWithin, IsInstance, distance, error, lower_bound, range, range_at}
 use Rattle.decomposition.proofs.Excess.{error-from_decomposes}
 use Rattle.decomposition.proofs.FewPaths.{flows_decompose}
 use Rattle.decomposition.proofs.Root.{all-parts}
-use Rattle.decomposition.proofs.Sums.{sum_below-nil, sum_below-same}
+use Rattle.decomposition.proofs.Sums.{sum_below-nil}
 use Rattle.greedy_paths.specs.Booking.{AreBooked}
 use Rattle.greedy_paths.specs.Built.{IsBuiltOn}
 use Rattle.greedy_paths.specs.Laws.{BookedPathsAreOneList, BuiltOnBookedIsFirst}
@@ -23,7 +23,8 @@ use Rattle.flowpaths_cli.specs.Booking.{IsAtMostFirst, IsKnownWhereBookedFit, up
 use Rattle.flowpaths_cli.specs.Firsts.{IsBeginning, IsFirstOfFlow, count_known}
 use Rattle.flowpaths_cli.specs.Right.{CountsPaths, NothingIsWithin}
 use Rattle.flowpaths_cli.specs.Room.{HasNoRoomFor, IsFlowIn}
-use Rattle.flowpaths_cli.proofs.Bounded.{bounds, highs, highs-at, lows, lows-at, within_small}
+use Rattle.cert_check.proofs.Lows.{lows, lows-at}
+use Rattle.flowpaths_cli.proofs.Bounded.{bounds, highs, highs-at, within_small}
 use Rattle.flowpaths_cli.proofs.PathsOnce.{paths_once}
 
 -- where both bounds of each edge are equal, the lower bounds are the upper ones
@@ -35,17 +36,6 @@ lows_are_highs (r ∷ rs) h =
 
 pub both_same : (rs : List Range) → list_all (λ (r : Range). r.lo == r.hi) rs ≡ true → (e : ℕ) → (range_at rs e).lo ≡ (range_at rs e).hi
 both_same rs h e = sym (lows-at rs e) ∙ (ap (λ (xs : List ℕ). slice_index xs e) (lows_are_highs rs h) ∙ highs-at rs e)
-
--- balance is told of the numbers on the edges
-pub balanced-same : (g : Graph) (f h : ℕ → ℕ) → ((e : ℕ) → f e ≡ h e) → IsBalanced g h → IsBalanced g f
-balanced-same g f h same balanced v inner =
-    sum_below-same (λ e. cond (head g e == v) (f e) 0) (λ e. cond (head g e == v) (h e) 0) (edge_count g) (λ e inside. ap (λ w. cond (head g e == v) w 0) (same e))
-    ∙ balanced v inner
-    ∙ sym (sum_below-same (λ e. cond (tail g e == v) (f e) 0) (λ e. cond (tail g e == v) (h e) 0) (edge_count g) (λ e inside. ap (λ w. cond (tail g e == v) w 0) (same e)))
-
--- the lower bounds of an exact instance are balanced
-pub lows_balanced : (i : Instance) → IsInstance Exact i → IsBalanced i.graph (slice_index (lows i.ranges))
-lows_balanced i valid = balanced-same i.graph (slice_index (lows i.ranges)) (lower_bound i) (lows-at i.ranges) valid.fits.1
 
 -- a decomposition of the lower bounds is one of the instance
 lows_made : (i : Instance) (a : List (List ℕ × ℕ)) → Decomposes i.graph (slice_index (lows i.ranges)) a → Decomposes i.graph (lower_bound i) a

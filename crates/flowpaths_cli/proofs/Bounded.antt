@@ -17,6 +17,7 @@ use Rattle.decomposition.proofs.Merging.{weight_on-where}
 use Rattle.decomposition.proofs.Root.{all-place, all-parts}
 use Rattle.decomposition.proofs.Sums.{sum_below-le}
 use Rattle.decomposition.proofs.Walks.{walk-cons}
+use Rattle.cert_check.proofs.Lows.{lows}
 
 -- no upper bound is above the greatest weight of a text
 greatest-le : (rs : List Range) → list_all (λ (r : Range). nat_le r.lo r.hi && nat_le r.hi 1000000000000) rs ≡ true → greatest_hi rs ≤ 1000000000000
@@ -36,15 +37,9 @@ bounds mode i valid e there =
     let both = and_parts (nat_le r.lo r.hi) (nat_le r.hi 1000000000000) (all-place (λ (r : Range). nat_le r.lo r.hi && nat_le r.hi 1000000000000) i.ranges (record { lo = 0; hi = 0 }) e valid.bounded there) in
     (leb-true r.lo r.hi both.0, leb-true r.hi 1000000000000 both.1)
 
--- the bounds as lists
-abbrev pub lows : List Range → List ℕ
-lows ranges = map (λ r. r.lo) ranges
-
+-- the upper bounds as a list
 abbrev pub highs : List Range → List ℕ
 highs ranges = map (λ r. r.hi) ranges
-
-pub lows-at : (ranges : List Range) (e : ℕ) → slice_index (lows ranges) e ≡ (range_at ranges e).lo
-lows-at ranges e = get_or-map (λ (r : Range). r.lo) ranges e (record { lo = 0; hi = 0 })
 
 pub highs-at : (ranges : List Range) (e : ℕ) → slice_index (highs ranges) e ≡ (range_at ranges e).hi
 highs-at ranges e = get_or-map (λ (r : Range). r.hi) ranges e (record { lo = 0; hi = 0 })

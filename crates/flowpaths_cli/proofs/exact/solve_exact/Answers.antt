@@ -8,7 +8,8 @@ use Rattle.flow_models.specs.Problem.{instance}
 use Rattle.greedy_paths.proofs.OneList.{booked_paths_are_one_list}
 use Rattle.flowpaths_cli.specs.Right.{CountsPaths}
 use Rattle.flowpaths_cli.specs.Searched.{FindsAs, IsSolvedBy}
-use Rattle.flowpaths_cli.proofs.Beginnings.{exact_beginning_of, lows_balanced}
+use Rattle.cert_check.proofs.Lows.{lows_balanced}
+use Rattle.flowpaths_cli.proofs.Beginnings.{exact_beginning_of}
 use Rattle.flowpaths_cli.proofs.Bounded.{lows_small}
 use Rattle.flowpaths_cli.proofs.Facts.{solved_facts}
 use Rattle.flowpaths_cli.proofs.SafeLists.{listed_rising, listed_safe}

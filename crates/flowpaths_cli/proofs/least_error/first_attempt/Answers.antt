@@ -9,7 +9,8 @@ use Rattle.greedy_paths.proofs.OneList.{booked_paths_are_one_list}
 use Rattle.flowpaths_cli.specs.Booking.{upper_bound}
 use Rattle.flowpaths_cli.specs.Widened.{IsWidened}
 use Rattle.flowpaths_cli.proofs.Beginnings.{booked_ones, both_same}
-use Rattle.flowpaths_cli.proofs.Bounded.{lows, lows-at, lows_small}
+use Rattle.cert_check.proofs.Lows.{lows, lows-at}
+use Rattle.flowpaths_cli.proofs.Bounded.{lows_small}
 use Rattle.flowpaths_cli.proofs.Halving.{booked_error, too_many_if_ok}
 use Rattle.flowpaths_cli.proofs.Widening.{widened_found, widened_nearer, widened_total}
 use Rattle.flowpaths_cli.proofs.least_error.first_attempt.Goals as goal
