@@ -16,7 +16,7 @@ use Rattle.path_report.specs.declared.report.Solved.{Solved}
 use Rattle.path_report.specs.declared.report.Trail.{Trail}
 use Rattle.flowpaths_cli.specs.Booking.{IsAtMostFirst, IsKnownWhereBookedFit}
 use Rattle.flowpaths_cli.specs.declared.settings.Settings.{Settings}
-use Rattle.flowpaths_cli.specs.Right.{ArePathsFor, AreListed, CountsPaths, HasCutWhereDue, HasEachPathOnce, HasRanges, IsAtLeastWidth, IsCertFor, IsMarked, IsTrailFor, NothingIsWithin, SolvedRight, decision_between, is_cut}
+use Rattle.flowpaths_cli.specs.Right.{ArePathsFor, AreListed, CountsPaths, HasCrowdWhereFound, HasCutWhereDue, HasEachPathOnce, HasRanges, IsAtLeastWidth, IsCertFor, IsMarked, IsTrailFor, NothingIsWithin, SolvedRight, decision_between, is_cut}
 use Rattle.flowpaths_cli.specs.Searched.{AreFewPaths, IsKnown}
 use Rattle.flowpaths_cli.proofs.PathsOnce.{nothing_once}
 
@@ -71,6 +71,7 @@ pub record IsCounted (mode : Mode) (nodes : ℕ) (i : Instance) (r : Solved) : T
   pub known : IsKnownWhereBookedFit mode i r.upper
   pub wide : IfSome r.lower (IsAtLeastWidth Interval i)
   pub cut : HasCutWhereDue mode i r.cert
+  pub crowd : HasCrowdWhereFound mode i r.upper r.cert
   pub marked : IsMarked nodes mode i r r.mark
   pub bound : IfSome r.lower (IsLowerBound Interval i)
   pub optimal : r.mark ≡ Optimal → IsOptimal Interval i r.paths
@@ -90,6 +91,7 @@ right_for Exact set i r counts c listed = record {
   known = c.known;
   wide = c.wide;
   cut = c.cut;
+  crowd = c.crowd;
   marked = c.marked;
   safe = listed;
   bound = c.bound;
@@ -104,6 +106,7 @@ right_for Interval set i r counts c listed = record {
   known = c.known;
   wide = c.wide;
   cut = c.cut;
+  crowd = c.crowd;
   marked = c.marked;
   safe = listed;
   bound = c.bound;
@@ -147,6 +150,7 @@ counted_optimal mode nodes i a es value cert runs known few first fits wide abov
   known = λ none. absurd (let no' : ⊥ = cc in no');
   wide = at_least_width i es value wide above;
   cut = cut;
+  crowd = λ _ none. absurd (let no' : ⊥ = cc in no');
   marked = record { value = value; lower = refl; upper = refl; cert = shown; no_trail = refl };
   bound = bound;
   optimal = λ _. best i a value known bound equal;
@@ -156,9 +160,9 @@ counted_optimal mode nodes i a es value cert runs known few first fits wide abov
 -- an answer and a lower bound, with the trail of the search that was spent
 pub counted_bounds : (mode : Mode) (nodes : ℕ) (i : Instance) (es : List ℕ) (value : ℕ) (upper : Option ℕ) (a : List (List ℕ × ℕ)) (cert : Cert) (trail : Trail) (runs : Option (List (List ℕ)))
     → ArePathsFor Interval i upper a → HasEachPathOnce a → AreFewPaths i a → IsAtMostFirst mode i upper → IsKnownWhereBookedFit mode i upper → IsWidth i (length es) → IsAntichain i es
-    → value ≡ length es → IfSome upper (λ u. value < u) → IsCertFor nodes mode i value cert → HasCutWhereDue mode i cert → IsTrailFor nodes mode i value upper trail
+    → value ≡ length es → IfSome upper (λ u. value < u) → IsCertFor nodes mode i value cert → HasCutWhereDue mode i cert → HasCrowdWhereFound mode i upper cert → IsTrailFor nodes mode i value upper trail
     → IsCounted mode nodes i (said Bounds (Some value) upper a cert (Some trail) runs)
-counted_bounds mode nodes i es value upper a cert trail runs are once few first fits wide chain many above shown cut spent = record {
+counted_bounds mode nodes i es value upper a cert trail runs are once few first fits wide chain many above shown cut crowd spent = record {
   paths = are;
   once = once;
   few = few;
@@ -166,6 +170,7 @@ counted_bounds mode nodes i es value upper a cert trail runs are once few first 
   known = fits;
   wide = at_least_width i es value wide (omega (arith, many));
   cut = cut;
+  crowd = crowd;
   marked = record { value = value; lower = refl; upper = above; cert = shown; trail = spent };
   bound = subst (IsLowerBound Interval i) (sym many) (width_bounds i es chain);
   optimal = λ is. absurd (let no' : ⊥ = cc in no');
@@ -174,9 +179,9 @@ counted_bounds mode nodes i es value upper a cert trail runs are once few first 
 
 -- no answer, and what shows that nothing meets
 pub counted_none : (mode : Mode) (nodes : ℕ) (i : Instance) (cert : Cert) (runs : Option (List (List ℕ)))
-    → IsAtMostFirst mode i None → IsKnownWhereBookedFit mode i None → IsMarked nodes mode i (said Infeasible None None [] cert None runs) Infeasible → HasCutWhereDue mode i cert → IsInfeasible Interval i
+    → IsAtMostFirst mode i None → IsKnownWhereBookedFit mode i None → IsMarked nodes mode i (said Infeasible None None [] cert None runs) Infeasible → HasCutWhereDue mode i cert → HasCrowdWhereFound mode i None cert → IsInfeasible Interval i
     → IsCounted mode nodes i (said Infeasible None None [] cert None runs)
-counted_none mode nodes i cert runs first fits marked cut never = record {
+counted_none mode nodes i cert runs first fits marked cut crowd never = record {
   paths = refl;
   once = nothing_once;
   few = omega arith;
@@ -184,6 +189,7 @@ counted_none mode nodes i cert runs first fits marked cut never = record {
   known = fits;
   wide = tt;
   cut = cut;
+  crowd = crowd;
   marked = marked;
   bound = tt;
   optimal = λ is. absurd (let no' : ⊥ = cc in no');

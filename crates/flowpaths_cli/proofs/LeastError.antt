@@ -32,6 +32,7 @@ right_at_least s k i a lower upper cert mode unsafe between meet first =
       known = λ none. absurd (let no' : ⊥ = cc in no');
       wide = λ counts. absurd counts;
       cut = λ ranges. absurd ranges;
+      crowd = λ counts. absurd counts;
       marked = record { value = lower; lower = refl; upper = sym (subst (λ n. Some lower ≡ Some n) meet refl); cert = between.shown; no_trail = refl };
       safe = (sym unsafe, tt);
       bound = between.bound;
@@ -53,6 +54,7 @@ right_between s k i a lower upper cert trail mode unsafe between spent first =
       known = λ none. absurd (let no' : ⊥ = cc in no');
       wide = λ counts. absurd counts;
       cut = λ ranges. absurd ranges;
+      crowd = λ counts. absurd counts;
       marked = record { value = lower; lower = refl; upper = spent.0; cert = between.shown; trail = spent.1 };
       safe = (sym unsafe, tt);
       bound = between.bound;
@@ -74,6 +76,7 @@ right_open s k i trail mode unsafe spent never =
       known = λ none. never;
       wide = λ counts. absurd counts;
       cut = λ ranges. absurd ranges;
+      crowd = λ counts. absurd counts;
       marked = record { value = 0; lower = refl; upper = tt; cert = refl; trail = trail_for s.nodes (Abs k) i (any_error k) 0 None trail spent refl };
       safe = (sym unsafe, tt);
       bound = λ b ok. omega arith;
@@ -95,6 +98,7 @@ right_never s k i tree mode unsafe valid refuted never =
       known = λ none. never;
       wide = tt;
       cut = λ ranges. absurd ranges;
+      crowd = λ counts. absurd counts;
       marked = record { lower = refl; upper = refl; cert = record { decision = refuted.decision; refuted = refuted.refuted; few = refuted.few }; no_trail = refl };
       safe = (sym unsafe, tt);
       bound = tt;

@@ -1,5 +1,5 @@
 -- What the searches for few paths found is right of the graph, and speaks of it.
-use Rattle.std.proofs.Common.{◌≡◌, ℕ, ◌<◌, ◌^◌, List, [], Option, Some, None, false, ◌&&◌, nat_le, length, refl, sym, subst, ◌∙◌, arith, leb-true}
+use Rattle.std.proofs.Common.{◌≡◌, ℕ, ◌<◌, ◌^◌, List, [], Option, Some, None, false, ◌&&◌, nat_le, length, refl, sym, subst, ◌∙◌, inl, inr, arith, leb-true}
 use Rattle.std.specs.Prelude.{All, IfSome}
 use Rattle.std.proofs.lemmas.Bool.{and_parts}
 use Rattle.decomposition.specs.declared.Mode.{Mode}
@@ -77,23 +77,23 @@ right_by_trail s i a es lower upper cert trail runs counts listed by counted man
     let more : length es < length a = by.finds.2.0 in
     let spent = trail_for s.nodes s.mode i (decision_below Interval i (length a)) lower (Some (length a)) trail by.finds.2.1 (between_same s.mode i lower (length a) counts) in
     let facts = counted_bounds s.mode s.nodes i es lower (Some (length a)) a cert trail runs (by.finds.0.meets, refl) by.finds.0.once by.finds.1 by.first by.known by.wide by.antichain many (omega (arith, many, more))
-    (cert_for s.nodes s.mode i lower cert counts (subst (λ n. IsCertFor s.nodes Interval i n cert) (sym many) shown)) (no_cut s.mode i cert other by.within) spent in
+    (cert_for s.nodes s.mode i lower cert counts (subst (λ n. IsCertFor s.nodes Interval i n cert) (sym many) shown)) (no_cut s.mode i cert other by.within) (λ _ none. absurd (let no' : ⊥ = cc in no')) spent in
     subst (λ n. SolvedRight s i (said Bounds (Some lower) (Some n) a cert (Some trail) runs)) (sym counted) (right_for s.mode s i _ counts facts listed)
 
 -- no answer is known, and the search for any was spent
 pub right_by_open : (s : Settings) (i : Instance) (es : List ℕ) (lower : ℕ) (cert : Cert) (trail : Trail) (runs : Option (List (List ℕ))) → CountsPaths s.mode → AreListed s i runs → IsSolvedBy s.nodes s.mode i es (Open trail)
     → lower ≡ length es → IsCertFor s.nodes Interval i (length es) cert → is_cut cert ≡ false → SolvedRight s i (said Bounds (Some lower) None [] cert (Some trail) runs)
 right_by_open s i es lower cert trail runs counts listed by many shown other =
-    let spent = trail_for s.nodes s.mode i (decision_at_all Interval i) lower None trail by.finds (all_same s.mode i counts) in
+    let spent = trail_for s.nodes s.mode i (decision_at_all Interval i) lower None trail by.finds.0 (all_same s.mode i counts) in
     let facts = counted_bounds s.mode s.nodes i es lower None [] cert trail runs refl nothing_once (omega arith) by.first by.known by.wide by.antichain many tt
-    (cert_for s.nodes s.mode i lower cert counts (subst (λ n. IsCertFor s.nodes Interval i n cert) (sym many) shown)) (no_cut s.mode i cert other by.within) spent in
+    (cert_for s.nodes s.mode i lower cert counts (subst (λ n. IsCertFor s.nodes Interval i n cert) (sym many) shown)) (no_cut s.mode i cert other by.within) (λ _ _. inr by.finds.1) spent in
     right_for s.mode s i _ counts facts listed
 
 -- there is a crowd
 pub right_by_crowd : (s : Settings) (i : Instance) (es : List ℕ) (e : ℕ) (cs : List ℕ) (runs : Option (List (List ℕ))) → CountsPaths s.mode → AreListed s i runs → IsSolvedBy s.nodes s.mode i es (Crowded e cs)
     → SolvedRight s i (said Infeasible None None [] (Crowd e cs) None runs)
 right_by_crowd s i es e cs runs counts listed by =
-    let facts = counted_none s.mode s.nodes i (Crowd e cs) runs by.first by.known (record { lower = refl; upper = refl; cert = (counts, by.finds.0); no_trail = refl }) (no_cut s.mode i (Crowd e cs) refl by.within)
+    let facts = counted_none s.mode s.nodes i (Crowd e cs) runs by.first by.known (record { lower = refl; upper = refl; cert = (counts, by.finds.0); no_trail = refl }) (no_cut s.mode i (Crowd e cs) refl by.within) (λ _ _. inl refl)
     (λ b ok. crowds_refute i e cs b by.finds.0 ok.0 ok.1 ok.2) in
     right_for s.mode s i _ counts facts listed
 
@@ -103,9 +103,9 @@ pub right_by_never : (s : Settings) (i : Instance) (es : List ℕ) (tree : Trail
 right_by_never s i es tree runs counts listed by =
     let same = all_same s.mode i counts in
     let facts = counted_none s.mode s.nodes i (Tree tree) runs by.first by.known
-    (record { lower = refl; upper = refl; no_trail = refl; cert = record { decision = by.finds.decision ∙ same; refuted = subst (λ d. IsRefutation i d tree.tokens) same by.finds.refuted; few = by.finds.few } })
-    (no_cut s.mode i (Tree tree) refl by.within)
-    (trees_refute_all Interval i tree.tokens (with_ranges s.mode i by.valid) by.finds.refuted) in
+    (record { lower = refl; upper = refl; no_trail = refl; cert = record { decision = by.finds.0.decision ∙ same; refuted = subst (λ d. IsRefutation i d tree.tokens) same by.finds.0.refuted; few = by.finds.0.few } })
+    (no_cut s.mode i (Tree tree) refl by.within) (λ _ _. inr by.finds.1)
+    (trees_refute_all Interval i tree.tokens (with_ranges s.mode i by.valid) by.finds.0.refuted) in
     right_for s.mode s i _ counts facts listed
 
 -- the ranges have a cut
@@ -119,7 +119,7 @@ right_by_cut s i side xs mode unsafe valid cut =
     let exact : IsInstance Exact i = record { net = valid.net; ranged = valid.ranged; bounded = valid.bounded; runs = valid.runs; distinct = valid.distinct; fits = fits } in
     none made.0 made.1.answer (error-from_decomposes i exact made.0 made.1) in
     let facts = counted_none Interval s.nodes i (Cut side xs) None first (λ no_upper booked books (a, room). none a room.answer room.within)
-    (record { lower = refl; upper = refl; cert = (tt, cut); no_trail = refl }) (λ ranges. (λ is. none, λ nothing. refl)) (λ b ok. none b ok.0 ok.2) in
+    (record { lower = refl; upper = refl; cert = (tt, cut); no_trail = refl }) (λ ranges. (λ is. none, λ nothing. refl)) (λ _ _. inl refl) (λ b ok. none b ok.0 ok.2) in
     subst (λ m. SolvedRight (record s { mode = m }) i (said Infeasible None None [] (Cut side xs) None None)) (sym mode) (right_for Interval s i _ tt facts (sym unsafe, tt))
 
 -- the entries of an answer fit a report

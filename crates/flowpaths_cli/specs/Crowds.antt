@@ -1,6 +1,6 @@
 -- Rules that are taken in rising order.
 use Rattle.std.specs.Prelude.{ℕ, ◌<◌, ◌≤◌, ◌⊎◌, List, [], ◌∷◌, length, nat_lt, All, Contains, IsTrue}
-use Rattle.decomposition.specs.Graph.{contains_run, RunsShareAPath}
+use Rattle.decomposition.specs.Graph.{contains_run, edge_count, RunsShareAPath}
 use Rattle.decomposition.specs.Answer.{is_ordered}
 use Rattle.decomposition.specs.Instance.{Instance, range}
 use Rattle.decomposition.specs.Certificates.{rule_at, AllRunsApart}
@@ -31,3 +31,7 @@ pub record AreTakenApart (n : ℕ) (i : Instance) (e : ℕ) (cs : List ℕ) : Ty
 -- an edge carries as many paths as there are rules through it that are taken apart
 abbrev pub CarriesTaken : Instance → ℕ → Type 0
 CarriesTaken i e = (cs : List ℕ) × AreTakenApart (length i.rules) i e cs × (length cs ≤ (range i e).hi)
+
+-- each edge carries as many paths as there are rules through it that are taken apart
+abbrev pub EachCarriesTaken : Instance → Type 0
+EachCarriesTaken i = (e : ℕ) → e < edge_count i.graph → CarriesTaken i e

@@ -5,13 +5,13 @@ pub mod Values
 pub mod Words
 pub mod Examples
 pub mod Booking
+pub mod Crowds
 pub mod Right
 pub mod Searched
 pub mod Firsts
 pub mod Room
 pub mod Halved
 pub mod Widened
-pub mod Crowds
 pub mod Run
 pub mod Reporting
 pub mod Marks

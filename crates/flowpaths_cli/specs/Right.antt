@@ -2,7 +2,7 @@
 pub use Rattle.cert_check.specs.Accepted.{CountsPaths}
 pub use Rattle.path_report.specs.BadLines.{IsTextOf}
 pub use Rattle.program_runs.specs.HandedBlocks.{labels_of}
-use Rattle.std.specs.Prelude.{◌≤◌, ◌<◌, ◌≡◌, ◌≢◌, ◌+◌, ◌/◌, ◌↔◌, ℕ, List, [], length, Bool, true, false, if◌then◌else◌, Option, None, Some, is_some, IfSome, Result, Ok, Err, IsSomeAnd, IsTrue, AllPairs}
+use Rattle.std.specs.Prelude.{◌≤◌, ◌<◌, ◌≡◌, ◌≢◌, ◌+◌, ◌/◌, ◌↔◌, ◌⊎◌, ◌||◌, ℕ, List, [], length, Bool, true, false, if◌then◌else◌, Option, None, Some, is_some, IfSome, Result, Ok, Err, IsSomeAnd, IsTrue, AllPairs}
 use Rattle.std.specs.List.{list_any}
 use Rattle.decomposition.specs.declared.Mode.{Mode}
 use Rattle.decomposition.specs.declared.Mode.TheVariants.{Exact, Interval, Abs}
@@ -32,6 +32,7 @@ use Rattle.path_report.specs.declared.report.Cert.TheVariants.{Zero, Wide, Tree,
 use Rattle.path_report.specs.declared.report.Trail.{Trail}
 use Rattle.path_report.specs.ReportText.{is_mode}
 use Rattle.flowpaths_cli.specs.Booking.{IsAtMostFirst, IsKnownWhereBookedFit}
+use Rattle.flowpaths_cli.specs.Crowds.{EachCarriesTaken}
 use Rattle.flowpaths_cli.specs.Numbers.{most_nodes, most_seed}
 use Rattle.flowpaths_cli.specs.declared.settings.Settings.{Settings}
 
@@ -155,13 +156,25 @@ NothingIsWithin i = (a : List (List ℕ × ℕ)) → IsAnswer i.graph a → erro
 abbrev pub HasCutWhereDue : Mode → Instance → Cert → Type 0
 HasCutWhereDue mode i cert = HasRanges mode → IsTrue (is_cut cert) ↔ NothingIsWithin i
 
+-- whether a certificate is a crowd
+abbrev pub is_crowd : Cert → Bool
+is_crowd Zero = false
+is_crowd (Wide es) = false
+is_crowd (Tree tree) = false
+is_crowd (Cut side vertices) = false
+is_crowd (Crowd e rules) = true
+
+-- where paths are counted and no answer is known, a cut or a crowd stands, or each edge carries as many paths as rules are taken there
+abbrev pub HasCrowdWhereFound : Mode → Instance → Option ℕ → Cert → Type 0
+HasCrowdWhereFound mode i upper cert = CountsPaths mode → upper ≡ None → IsTrue (is_cut cert || is_crowd cert) ⊎ EachCarriesTaken i
+
 -- the runs that are listed: there where they were asked for, and then the rising list of the maximal safe runs
 abbrev pub AreListed : Settings → Instance → Option (List (List ℕ)) → Type 0
 AreListed set i runs = (is_some runs ≡ set.safe) × IfSome runs (AreMaximal (IsSafe i))
 
 -- A solved report is right and true for an instance: its paths meet the model with `upper` as their value, are no worse than the first
--- answer, and none stands twice; what the mark says of bounds, certificate and trail holds; the runs listed are the maximal safe ones; no answer is below `lower`; the
--- paths of an optimal one are best, and where the mark is infeasible nothing meets.
+-- answer, and none stands twice; a cut stands where it is due, and a crowd where one is found; what the mark says of bounds, certificate and trail holds; the runs listed are the
+-- maximal safe ones; no answer is below `lower`; the paths of an optimal one are best, and where the mark is infeasible nothing meets.
 pub record SolvedRight (set : Settings) (i : Instance) (s : Solved) : Type 0 where
   pub paths : ArePathsFor set.mode i s.upper s.paths
   pub once : HasEachPathOnce s.paths
@@ -170,6 +183,7 @@ pub record SolvedRight (set : Settings) (i : Instance) (s : Solved) : Type 0 whe
   pub known : IsKnownWhereBookedFit set.mode i s.upper
   pub wide : IfSome s.lower (IsAtLeastWidth set.mode i)
   pub cut : HasCutWhereDue set.mode i s.cert
+  pub crowd : HasCrowdWhereFound set.mode i s.upper s.cert
   pub marked : IsMarked set.nodes set.mode i s s.mark
   pub safe : AreListed set i s.safe
   pub bound : IfSome s.lower (IsLowerBound set.mode i)

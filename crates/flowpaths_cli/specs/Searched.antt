@@ -14,6 +14,7 @@ use Rattle.decomposition.specs.Width.{IsAntichain, IsWidth}
 use Rattle.path_report.specs.Laws.{IsSmallTrail, AreRisingEdges, AreRisingRules}
 use Rattle.path_report.specs.declared.report.Trail.{Trail}
 use Rattle.flowpaths_cli.specs.Booking.{AreBookedFor, IsAtMostFirst, IsKnownWhereBookedFit}
+use Rattle.flowpaths_cli.specs.Crowds.{EachCarriesTaken}
 use Rattle.flowpaths_cli.specs.Right.{HasEachPathOnce, HasRanges, NothingIsWithin}
 use Rattle.flowpaths_cli.specs.declared.searching.Attempt.{Attempt}
 use Rattle.flowpaths_cli.specs.declared.searching.Attempt.TheVariants.{Found, Refuted, Spent}
@@ -69,12 +70,13 @@ StopsAt nodes i width count Width = count ≤ width
 StopsAt nodes i width count (AtRefutation tree) = (width < count) × IsRefutedBy nodes i (decision_below Interval i count) tree
 StopsAt nodes i width count (AtBudget trail) = (width < count) × IsSpentBy nodes i (decision_below Interval i count) trail
 
--- what is known when the searches for few paths have ended: an answer and why there is no further search, that nothing meets, or neither
+-- what is known when the searches for few paths have ended: an answer and why there is no further search, a crowd, or, where each edge
+-- carries what is taken at it, that nothing meets, or nothing
 abbrev pub FindsAs : ℕ → Instance → ℕ → Finding → Type 0
 FindsAs nodes i width (Known a ending) = IsKnown Interval i a × AreFewPaths i a × StopsAt nodes i width (length a) ending
 FindsAs nodes i width (Crowded e cs) = IsCrowd i e cs × AreRisingRules cs
-FindsAs nodes i width (Never tree) = IsRefutedBy nodes i (decision_at_all Interval i) tree
-FindsAs nodes i width (Open trail) = IsSpentBy nodes i (decision_at_all Interval i) trail
+FindsAs nodes i width (Never tree) = IsRefutedBy nodes i (decision_at_all Interval i) tree × EachCarriesTaken i
+FindsAs nodes i width (Open trail) = IsSpentBy nodes i (decision_at_all Interval i) trail × EachCarriesTaken i
 
 -- how many paths are known, if an answer is
 abbrev pub count_of : Finding → Option ℕ

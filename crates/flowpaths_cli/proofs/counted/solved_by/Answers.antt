@@ -31,4 +31,4 @@ pub returns-in-Open-clause-found : goal.returns-in-Open-clause-found
 returns-in-Open-clause-found c nodes mode i by rising =
     let by' = subst (IsSolvedBy nodes mode i c.args.antichain) c.in-Open.is by in
     subst (λ (ps : List (List ℕ × ℕ)). IsFoundIn i.graph (said Bounds (Some c.len.result) None ps c.cert_of.result (Some c.in-Open.trail) c.args.safe)) (sym c.new.ensures)
-    (none_in i.graph Bounds (Some c.len.result) c.cert_of.result (Some c.in-Open.trail) c.args.safe rising (omega arith) (c.cert_of.ensures.rising i.graph by.rising) by'.finds.small)
+    (none_in i.graph Bounds (Some c.len.result) c.cert_of.result (Some c.in-Open.trail) c.args.safe rising (omega arith) (c.cert_of.ensures.rising i.graph by.rising) by'.finds.0.small)
