@@ -15,7 +15,8 @@ use Rattle.decomposition.proofs.Cuts.{sides, sides', has-all}
 use Rattle.decomposition.proofs.Nets.{inside-from_net}
 use Rattle.decomposition.proofs.Root.{all-cons, all-parts}
 use Rattle.lower_flow.specs.Residual.{near, far, flow_at, surplus, lack, IsRanged, residual}
-use Rattle.lower_flow.specs.Search.{is_set, IsClosed}
+use Rattle.dag_net.specs.Marks.{is_set}
+use Rattle.lower_flow.specs.Search.{IsClosed}
 use Rattle.lower_flow.specs.Clearing.{AreMarked}
 use Rattle.lower_flow.specs.Found.{with_ranges}
 

@@ -6,7 +6,7 @@ use Rattle.decomposition.specs.Answer.{is_ordered}
 use Rattle.decomposition.proofs.FewPaths.{all-append}
 use Rattle.decomposition.proofs.Members.{any-here, any-append_left, any-append_right}
 use Rattle.decomposition.proofs.Root.{all-cons, all-parts}
-use Rattle.lower_flow.specs.Search.{is_set}
+use Rattle.dag_net.specs.Marks.{is_set}
 use Rattle.lower_flow.specs.Clearing.{AreMarked}
 
 -- the list stays as it is at a vertex that is not marked, and has one that is marked at its end

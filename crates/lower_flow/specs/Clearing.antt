@@ -6,7 +6,7 @@ use Rattle.decomposition.specs.Graph.{Graph}
 use Rattle.decomposition.specs.Answer.{is_ordered, sum_below}
 use Rattle.decomposition.specs.Certificates.{has_vertex}
 use Rattle.lower_flow.specs.Residual.{surplus, deficit}
-use Rattle.lower_flow.specs.Search.{is_set}
+use Rattle.dag_net.specs.Marks.{is_set}
 
 -- how much all vertices together have too much
 abbrev pub total_surplus : Graph → Side → (ℕ → ℕ) → ℕ

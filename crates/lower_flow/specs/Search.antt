@@ -1,13 +1,10 @@
 -- What a search for a way for a surplus has found.
-use Rattle.std.specs.Prelude.{◌≡◌, ◌≢◌, ℕ, ◌<◌, ◌≤◌, ◌⊎◌, Bool, true, false, cond, not, List, [], ◌∷◌, ◌++◌, length, slice_set, Option, None, MatchOption, slice_index_or, IsTrue}
+use Rattle.std.specs.Prelude.{◌≡◌, ◌≢◌, ℕ, ◌<◌, ◌≤◌, ◌⊎◌, Bool, true, cond, not, List, [], ◌∷◌, ◌++◌, length, slice_set, Option, None, MatchOption, slice_index_or, IsTrue}
 use Rattle.decomposition.specs.Answer.{sum_below}
+use Rattle.dag_net.specs.Marks.{is_set}
 use Rattle.lower_flow.specs.Residual.{Residual}
 use Rattle.lower_flow.specs.declared.search.Reached.{Reached}
 use Rattle.lower_flow.specs.declared.search.Target.{Target}
-
--- whether a flag is set
-abbrev pub is_set : List Bool → ℕ → Bool
-is_set flags v = slice_index_or flags v false
 
 -- the entry at a place
 abbrev pub entry_at : List Reached → ℕ → Reached

@@ -4,7 +4,8 @@ ghost use Rattle.std.specs.Prelude.{◌≡◌, ◌<◌, ◌⊎◌, ℕ, None, ve
 ghost use Rattle.decomposition.specs.Graph.{edge_count, tail, head};
 ghost use Rattle.dag_net.specs.Entering.{EnterFrom};
 ghost use Rattle.lower_flow.specs.Residual.{near, far, AreSumsAt, IsRanged, residual};
-ghost use Rattle.lower_flow.specs.Search.{is_set, entry_at, IsSearch, Enters, Grows, IsFollowed, IsVisited, AreStarted, EndsAt};
+ghost use Rattle.dag_net.specs.Marks.{is_set};
+ghost use Rattle.lower_flow.specs.Search.{entry_at, IsSearch, Enters, Grows, IsFollowed, IsVisited, AreStarted, EndsAt};
 
 use crate::ends::step_over;
 use crate::sums::{Sums, sum_flow};

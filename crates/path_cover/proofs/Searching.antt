@@ -1,26 +1,21 @@
 -- The entries of a search, one after the other.
-use Rattle.std.proofs.Common.{◌⊎◌, ◌≡◌, ◌≢◌, ℕ, zero, suc, true≢false, ◌+◌, ◌-◌, ◌<◌, ◌≤◌, Bool, true, false, not, cond, List, [], ◌∷◌, ◌++◌, length, length-append, replicate, Option, None, Some, MatchOption, get_or, slice_set, get_or-set_same, get_or-set_other, length-set, refl, sym, ap, subst, ◌∙◌, arith, inl, inr}
+use Rattle.std.proofs.Common.{◌⊎◌, ◌≡◌, ℕ, ◌+◌, ◌-◌, ◌<◌, ◌≤◌, Bool, true, false, not, cond, List, [], ◌∷◌, ◌++◌, length, length-append, Option, None, Some, get_or, slice_set, length-set, refl, sym, ap, subst, ◌∙◌, arith, inl, inr}
 use Rattle.std.specs.Prelude.{IsTrue}
-use Rattle.std.specs.Option.{option_map_or}
 use Rattle.std.proofs.Math.ListN.{get_or-append}
 use Rattle.std.proofs.Math.Seq.{get_or-append_seam}
 use Rattle.std.proofs.lemmas.Bool.{cases_Bool, cases_lt, cases_eq, both_ways, not-true, not_from_false}
-use Rattle.std.proofs.lemmas.List.{get_or_read, get_or_past, get_or-replicate, length-replicate}
+use Rattle.std.proofs.lemmas.List.{get_or_read}
 use Rattle.decomposition.specs.Graph.{Graph, edge_count, tail, head, is_sink}
 use Rattle.decomposition.specs.Answer.{sum_below}
 use Rattle.decomposition.proofs.Sums.{sum_below-one, sum_below-nil}
 use Rattle.decomposition.proofs.FewPaths.{sum_below-ones, one_or_none}
 use Rattle.path_cover.specs.Carrying.{least_flow}
 use Rattle.path_cover.specs.Cut.{IsClosed}
-use Rattle.path_cover.specs.Search.{is_set, entry_at, IsStepOver, IsReached, IsSearch, IsBegun, Enters, Grows, IsFollowed, IsVisited, AreSourcesMarked}
+use Rattle.dag_net.specs.Marks.{is_set}
+use Rattle.dag_net.proofs.Marks.{set-here, set-other, set-below}
+use Rattle.dag_net.proofs.EdgesInTurn.{IsFirstAt, AreDone, AreDone-start, AreDone-more}
+use Rattle.path_cover.specs.Search.{entry_at, IsStepOver, IsReached, IsSearch, IsBegun, Enters, Grows, IsFollowed, IsVisited, AreSourcesMarked}
 use Rattle.path_cover.specs.declared.search.Reached.{Reached}
-
--- a mark that is set, and the others
-pub set-here : (marked : List Bool) (x : ℕ) → x < length marked → is_set (slice_set marked x true) x ≡ true
-set-here marked x h = get_or-set_same marked x true false h
-
-pub set-other : (marked : List Bool) (x v : ℕ) → v ≢ x → is_set (slice_set marked x true) v ≡ is_set marked v
-set-other marked x v other = get_or-set_other marked x v true false other
 
 -- what is read at a place
 pub entry-read : (entries : List Reached) (k : ℕ) (r : Reached) → k < length entries → r ≡ get_or entries k r → r.vertex ≡ (entry_at entries k).vertex
@@ -171,35 +166,6 @@ module _ (g : Graph) (needed : ℕ → Bool) (flow : ℕ → ℕ) where
     back = λ e h came. let at = s.listed (head g e) came in (visited at.0 at.1 e h).against (sym at.2);
   }
 
--- of the edges with one end at v, up to the one at hand
-module _ (m : ℕ) (end : ℕ → ℕ) (v : ℕ) where
-  -- the first of them from a place on
-  abbrev pub IsFirstAt : ℕ → Option ℕ → Type 0
-  IsFirstAt from found = MatchOption found ((e : ℕ) → from ≤ e → e < m → end e ≢ v) (λ e. (from ≤ e) × (e < m) × (end e ≡ v) × ((d : ℕ) → from ≤ d → d < e → end d ≢ v))
-
-  -- each before the one at hand is done
-  abbrev pub AreDone : (ℕ → Type 0) → Option ℕ → Type 0
-  AreDone P out = MatchOption out ((e : ℕ) → e < m → end e ≡ v → P e) (λ n. (n < m) × (end n ≡ v) × ((e : ℕ) → e < n → end e ≡ v → P e))
-
-  pub AreDone-start : (P : ℕ → Type 0) (out : Option ℕ) → IsFirstAt 0 out → AreDone P out
-  AreDone-start P None none = λ e h at. absurd (none e (omega arith) h at)
-  AreDone-start P (Some n) first = (first.1, first.2, λ e h at. absurd (first.3 e (omega arith) h at))
-
-  pub AreDone-more : (P Q : ℕ → Type 0) (n : ℕ) (out : Option ℕ) → AreDone P (Some n) → ((e : ℕ) → P e → Q e) → Q n → IsFirstAt (n + 1) out → AreDone Q out
-  AreDone-more P Q n out done up here next = go out next where
-    before : (e : ℕ) → e < n + 1 → end e ≡ v → Q e
-    before e h at = elim (cases_eq e n) [ inl same ↦ subst Q (sym same) here | inr other ↦ up e (done.2 e (omega arith) at) ]
-
-    go : (out : Option ℕ) → IsFirstAt (n + 1) out → AreDone Q out
-    go None none = λ e h at. elim (cases_lt e (n + 1)) [ inl lt ↦ before e lt at | inr ge ↦ absurd (none e ge h at) ]
-    go (Some k) first = (first.1, first.2, λ e h at. elim (cases_lt e (n + 1)) [ inl lt ↦ before e lt at | inr ge ↦ absurd (first.3 e ge h at) ])
-
--- a marked vertex is a vertex
-pub set-below : (marked : List Bool) (v : ℕ) → is_set marked v ≡ true → v < length marked
-set-below [] v h = absurd (true≢false (sym h))
-set-below (b ∷ marked) zero h = omega arith
-set-below (b ∷ marked) (suc v) h = omega (arith, set-below marked v h)
-
 -- the edges with one end at v are followed, up to the one at hand
 pub record Follows (g : Graph) (needed : ℕ → Bool) (flow : ℕ → ℕ) (end : ℕ → ℕ) (v : ℕ) (old : List Reached) (old_marked : List Bool) (entries : List Reached) (marked : List Bool) (out : Option ℕ) : Type 0 where
   pub search : IsSearch g needed flow entries marked
@@ -275,16 +241,3 @@ IsBegun-empty g marked count none needed flow = record {
   listed = λ v h. absurd (both_ways _ (none v) h);
   size = sum_below-nil (λ v. cond (is_set marked v) 1 0) g.vertices (λ v h. rw (none v) refl);
 }
-
--- the next edge at v is nearer to the end of the list
-pub cursor-falls : (m : ℕ) (end : ℕ → ℕ) (v e : ℕ) (out : Option ℕ) → e < m → IsFirstAt m end v (e + 1) out → option_map_or (λ d. m - d) out 0 < m - e
-cursor-falls m end v e None h none = omega arith
-cursor-falls m end v e (Some n) h first = let a : e + 1 ≤ n = first.0 in let b : n < m = first.1 in omega arith
-
--- no mark is set
-pub set-none : (n v : ℕ) → is_set (replicate n false) v ≡ false
-set-none n v =
-    elim (cases_lt v n) [
-      | inl lt ↦ get_or-replicate n v false false lt
-      | inr ge ↦ get_or_past (replicate n false) v false (omega (arith, length-replicate n false))
-    ]

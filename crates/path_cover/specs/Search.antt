@@ -1,14 +1,11 @@
 -- What a search for a way to less flow has found.
-use Rattle.std.specs.Prelude.{◌≡◌, ◌≢◌, ℕ, ◌<◌, ◌≤◌, ◌⊎◌, Bool, true, false, cond, not, List, [], ◌∷◌, ◌++◌, length, slice_set, Option, None, MatchOption, slice_index_or, IsTrue}
+use Rattle.std.specs.Prelude.{◌≡◌, ◌≢◌, ℕ, ◌<◌, ◌≤◌, ◌⊎◌, Bool, true, cond, not, List, [], ◌∷◌, ◌++◌, length, slice_set, Option, None, MatchOption, slice_index_or, IsTrue}
 use Rattle.decomposition.specs.Graph.{Graph, edge_count, tail, head, is_source, is_sink}
 use Rattle.decomposition.specs.Answer.{sum_below}
+use Rattle.dag_net.specs.Marks.{is_set}
 use Rattle.path_cover.specs.Carrying.{least_flow}
 use Rattle.path_cover.specs.Cut.{IsClosed}
 use Rattle.path_cover.specs.declared.search.Reached.{Reached}
-
--- whether a flag is set
-abbrev pub is_set : List Bool → ℕ → Bool
-is_set flags v = slice_index_or flags v false
 
 -- the entry at a place
 abbrev pub entry_at : List Reached → ℕ → Reached

@@ -5,7 +5,7 @@ ghost use Rattle.decomposition.specs.Graph.{edge_count, tail, head, IsNet};
 ghost use Rattle.decomposition.specs.Flow.{IsBalanced};
 ghost use Rattle.path_cover.specs.Carrying.{least_flow, IsCarrying, most_at_first, IsMore, IsSentOn, IsBroughtIn};
 ghost use Rattle.dag_net.specs.Entering.{EnterFrom};
-ghost use Rattle.path_cover.specs.Search.{is_set};
+ghost use Rattle.dag_net.specs.Marks.{is_set};
 
 use crate::ways::{edge_back, edge_onward};
 use dag_net::{Entering, Net};

@@ -5,7 +5,7 @@ ghost use Rattle.decomposition.specs.Graph.{edge_count};
 ghost use Rattle.decomposition.specs.Answer.{is_ordered};
 ghost use Rattle.decomposition.specs.Width.{IsPathCover, IsAntichainOf};
 ghost use Rattle.path_cover.specs.Cut.{leaves, AreThose};
-ghost use Rattle.path_cover.specs.Search.{is_set};
+ghost use Rattle.dag_net.specs.Marks.{is_set};
 
 use crate::carrying::first_flow;
 use crate::found::Width;

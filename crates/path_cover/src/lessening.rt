@@ -5,7 +5,8 @@ ghost use Rattle.decomposition.specs.Graph.{edge_count, is_sink, IsNet};
 ghost use Rattle.path_cover.specs.Carrying.{IsCarrying, most_at_first, arriving};
 ghost use Rattle.path_cover.specs.Cut.{IsClosed};
 ghost use Rattle.dag_net.specs.Entering.{EnterFrom};
-ghost use Rattle.path_cover.specs.Search.{is_set, entry_at, IsSearch};
+ghost use Rattle.dag_net.specs.Marks.{is_set};
+ghost use Rattle.path_cover.specs.Search.{entry_at, IsSearch};
 
 use crate::search::{Search, can_spare};
 use dag_net::{Entering, Net};

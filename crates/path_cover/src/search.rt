@@ -4,7 +4,8 @@ ghost use Rattle.std.specs.Prelude.{◌≡◌, ◌⊎◌, ℕ, ◌<◌, ◌↔�
 ghost use Rattle.decomposition.specs.Graph.{edge_count, tail, head, is_source, is_sink};
 ghost use Rattle.path_cover.specs.Carrying.{least_flow};
 ghost use Rattle.dag_net.specs.Entering.{EnterFrom};
-ghost use Rattle.path_cover.specs.Search.{is_set, entry_at, IsSearch, IsBegun, Enters, Grows, IsFollowed, IsVisited, AreSourcesMarked, EndsAt};
+ghost use Rattle.dag_net.specs.Marks.{is_set};
+ghost use Rattle.path_cover.specs.Search.{entry_at, IsSearch, IsBegun, Enters, Grows, IsFollowed, IsVisited, AreSourcesMarked, EndsAt};
 
 use dag_net::{Entering, Net};
 use std::alloc::{AllocError, Global};

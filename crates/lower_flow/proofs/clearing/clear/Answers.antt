@@ -1,7 +1,8 @@
 use Rattle.std.proofs.Common.{◌<◌, List, Bool, length, slice_index, inl, inr, sym, subst, ◌∙◌, arith, eq-eqb}
 use Rattle.std.proofs.lemmas.Bool.{cases_lt, both_ways}
 use Rattle.lower_flow.specs.Residual.{residual}
-use Rattle.lower_flow.specs.Search.{entry_at, is_set, IsClosed}
+use Rattle.dag_net.specs.Marks.{is_set}
+use Rattle.lower_flow.specs.Search.{entry_at, IsClosed}
 use Rattle.lower_flow.specs.Clearing.{AreMarked}
 use Rattle.lower_flow.proofs.Searching.{first-starts, vertex-below}
 use Rattle.lower_flow.proofs.Crossing.{IsCut-closed}

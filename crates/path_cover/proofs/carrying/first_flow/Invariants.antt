@@ -1,4 +1,4 @@
-use Rattle.path_cover.specs.Search.{is_set}
+use Rattle.dag_net.specs.Marks.{is_set}
 use Rattle.path_cover.proofs.Sending.{CarriesBefore}
 use Rattle.path_cover.proofs.carrying.first_flow.Given as goal
 

@@ -1,6 +1,6 @@
 use Rattle.std.proofs.Common.{◌+◌, ◌&&◌, ℕ, Bool, sym, subst, ◌∙◌}
 use Rattle.path_cover.specs.Cut.{leaves, AreThose}
-use Rattle.path_cover.specs.Search.{is_set}
+use Rattle.dag_net.specs.Marks.{is_set}
 use Rattle.path_cover.proofs.Crossing.{AreThose-other, AreThose-more}
 use Rattle.path_cover.proofs.covers.leaving.Goals as goal
 use Rattle.path_cover.proofs.covers.leaving.Goals.{then-is_leaving+in_ok-push, else-is_leaving}

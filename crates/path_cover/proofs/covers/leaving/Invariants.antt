@@ -1,6 +1,6 @@
 use Rattle.std.specs.Prelude.{◌&&◌}
 use Rattle.path_cover.specs.Cut.{leaves, AreThose}
-use Rattle.path_cover.specs.Search.{is_set}
+use Rattle.dag_net.specs.Marks.{is_set}
 use Rattle.path_cover.proofs.covers.leaving.Given as goal
 
 abbrev pub invariant-loop-e : goal.invariant-loop-e

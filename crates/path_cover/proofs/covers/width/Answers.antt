@@ -3,7 +3,7 @@ use Rattle.std.proofs.lemmas.List.{with_items_is}
 use Rattle.decomposition.specs.Graph.{edge_count}
 use Rattle.path_cover.specs.Cut.{leaves, AreThose}
 use Rattle.path_cover.specs.Load.{load}
-use Rattle.path_cover.specs.Search.{is_set}
+use Rattle.dag_net.specs.Marks.{is_set}
 use Rattle.path_cover.proofs.Loads.{IsPathCover-load}
 use Rattle.path_cover.proofs.Crossing.{IsAntichainOf-leaving, leaving-count}
 use Rattle.path_cover.proofs.covers.width.Goals as goal

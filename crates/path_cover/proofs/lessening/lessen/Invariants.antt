@@ -1,5 +1,5 @@
 use Rattle.std.proofs.Common.{slice_index}
-use Rattle.path_cover.specs.Search.{is_set}
+use Rattle.dag_net.specs.Marks.{is_set}
 use Rattle.path_cover.specs.Carrying.{arriving}
 use Rattle.path_cover.proofs.LessFlow.{Lessens}
 use Rattle.path_cover.proofs.lessening.lessen.Given as goal

@@ -1,7 +1,8 @@
 use Rattle.std.proofs.Common.{◌≡◌, ◌≢◌, ◌+◌, ◌-◌, ◌<◌, Some, length, slice_index, slice_set, sym, ◌∙◌, arith}
 use Rattle.std.proofs.lemmas.Bool.{both_ways}
 use Rattle.decomposition.specs.Graph.{head}
-use Rattle.path_cover.specs.Search.{is_set, entry_at}
+use Rattle.dag_net.specs.Marks.{is_set}
+use Rattle.path_cover.specs.Search.{entry_at}
 use Rattle.path_cover.proofs.Searching.{entry-read, way-read, IsSearch-few}
 use Rattle.path_cover.proofs.Sending.{IsRaised-set, IsRaised-unset}
 use Rattle.path_cover.proofs.LessFlow.{step-at, TakesUnit-lower, TakesUnit-raise}

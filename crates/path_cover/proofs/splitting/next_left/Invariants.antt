@@ -1,7 +1,7 @@
 use Rattle.std.proofs.Common.{◌≡◌, ◌-◌, slice_index}
 use Rattle.std.specs.Option.{option_map_or}
 use Rattle.decomposition.specs.Graph.{edge_count, tail}
-use Rattle.path_cover.proofs.Searching.{AreDone}
+use Rattle.dag_net.proofs.EdgesInTurn.{AreDone}
 use Rattle.path_cover.proofs.splitting.next_left.Given as goal
 
 abbrev pub invariant-loop-out : goal.invariant-loop-out

@@ -3,7 +3,7 @@ use Rattle.std.specs.Option.{option_map_or}
 use Rattle.std.proofs.lemmas.List.{get_or_read}
 use Rattle.decomposition.specs.Graph.{edge_count, head}
 use Rattle.dag_net.specs.Entering.{IsFirstInto}
-use Rattle.path_cover.proofs.Searching.{cursor-falls}
+use Rattle.dag_net.proofs.EdgesInTurn.{cursor-falls}
 use Rattle.path_cover.proofs.Sending.{IsOneInto-first, IsEdgeInto-first}
 use Rattle.path_cover.proofs.ways.edge_back.Goals as goal
 use Rattle.path_cover.proofs.ways.edge_back.Goals.{After-index-into-in-Some}

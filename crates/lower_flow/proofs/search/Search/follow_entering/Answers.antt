@@ -6,7 +6,8 @@ use Rattle.dag_net.specs.Entering.{IsFirstInto}
 use Rattle.lower_flow.specs.Residual.{residual}
 use Rattle.lower_flow.specs.Search.{entry_at, IsFollowed}
 use Rattle.lower_flow.specs.declared.search.Reached.{Reached}
-use Rattle.lower_flow.proofs.Searching.{entry-read, read-below, Follows-start, Follows-more, cursor-falls}
+use Rattle.dag_net.proofs.EdgesInTurn.{cursor-falls}
+use Rattle.lower_flow.proofs.Searching.{entry-read, read-below, Follows-start, Follows-more}
 use Rattle.lower_flow.proofs.search.Search.follow_entering.Goals as goal
 use Rattle.lower_flow.proofs.search.Search.follow_entering.Goals.{After-index-into-in-Some}
 

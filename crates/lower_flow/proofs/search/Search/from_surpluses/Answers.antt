@@ -1,8 +1,10 @@
 use Rattle.std.proofs.Common.{◌≡◌, List, Bool, false, length, slice_index, sym, subst, arith}
 use Rattle.lower_flow.specs.Residual.{residual}
-use Rattle.lower_flow.specs.Search.{is_set, IsSearch}
+use Rattle.dag_net.specs.Marks.{is_set}
+use Rattle.lower_flow.specs.Search.{IsSearch}
 use Rattle.lower_flow.specs.declared.search.Reached.{Reached}
-use Rattle.lower_flow.proofs.Searching.{IsSearch-empty, set-none}
+use Rattle.dag_net.proofs.Marks.{set-none}
+use Rattle.lower_flow.proofs.Searching.{IsSearch-empty}
 use Rattle.lower_flow.proofs.search.Search.from_surpluses.Goals as goal
 
 pub enter_surpluses-requires-clause-search : goal.enter_surpluses-requires-clause-search

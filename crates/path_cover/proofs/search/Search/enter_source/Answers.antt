@@ -3,7 +3,8 @@ use Rattle.std.proofs.lemmas.Bool.{not_from_false}
 use Rattle.std.proofs.lemmas.Result.{on_ok_weaker}
 use Rattle.decomposition.specs.Graph.{is_sink}
 use Rattle.decomposition.proofs.Flows.{tail-no_sink}
-use Rattle.path_cover.specs.Search.{is_set, Enters}
+use Rattle.dag_net.specs.Marks.{is_set}
+use Rattle.path_cover.specs.Search.{Enters}
 use Rattle.path_cover.proofs.Searching.{IsEntered, IsEntered-from}
 use Rattle.path_cover.proofs.search.Search.enter_source.Goals as goal
 use Rattle.path_cover.proofs.search.Search.enter_source.Goals.{After-enter}

@@ -1,7 +1,8 @@
 use Rattle.std.proofs.Common.{◌≡◌, ◌<◌, length, Some, inl, inr, slice_index, sym, ◌∙◌, arith}
 use Rattle.std.proofs.lemmas.Result.{on_ok_weaker}
 use Rattle.decomposition.specs.Graph.{tail}
-use Rattle.path_cover.specs.Search.{is_set, entry_at, Enters}
+use Rattle.dag_net.specs.Marks.{is_set}
+use Rattle.path_cover.specs.Search.{entry_at, Enters}
 use Rattle.path_cover.proofs.Searching.{entry-read, IsEntered, IsEntered-from}
 use Rattle.path_cover.proofs.search.Search.follow.Goals as goal
 use Rattle.path_cover.proofs.search.Search.follow.Goals.{After-enter, After-enter-then-can_spare}

@@ -3,9 +3,11 @@ use Rattle.std.specs.Option.{option_map_or}
 use Rattle.std.proofs.lemmas.List.{get_or_read}
 use Rattle.decomposition.specs.Graph.{edge_count, head}
 use Rattle.dag_net.specs.Entering.{IsFirstInto}
-use Rattle.path_cover.specs.Search.{is_set, entry_at, IsFollowed}
+use Rattle.dag_net.specs.Marks.{is_set}
+use Rattle.path_cover.specs.Search.{entry_at, IsFollowed}
 use Rattle.path_cover.specs.declared.search.Reached.{Reached}
-use Rattle.path_cover.proofs.Searching.{entry-read, Follows-start, Follows-more, cursor-falls, vertex-below}
+use Rattle.dag_net.proofs.EdgesInTurn.{cursor-falls}
+use Rattle.path_cover.proofs.Searching.{entry-read, Follows-start, Follows-more, vertex-below}
 use Rattle.path_cover.proofs.search.Search.follow_entering.Goals as goal
 use Rattle.path_cover.proofs.search.Search.follow_entering.Goals.{After-index-into-in-Some}
 

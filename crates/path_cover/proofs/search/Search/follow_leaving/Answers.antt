@@ -1,7 +1,8 @@
 use Rattle.std.proofs.Common.{◌+◌, ◌<◌, length, slice_index, subst, arith}
 use Rattle.decomposition.specs.Graph.{tail}
 use Rattle.dag_net.specs.Chain.{IsFirstOut}
-use Rattle.path_cover.specs.Search.{is_set, entry_at, IsFollowed}
+use Rattle.dag_net.specs.Marks.{is_set}
+use Rattle.path_cover.specs.Search.{entry_at, IsFollowed}
 use Rattle.path_cover.specs.declared.search.Reached.{Reached}
 use Rattle.path_cover.proofs.Searching.{Follows-more}
 use Rattle.path_cover.proofs.search.Search.follow_leaving.Goals as goal

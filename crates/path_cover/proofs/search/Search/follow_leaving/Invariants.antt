@@ -1,7 +1,8 @@
 use Rattle.std.proofs.Common.{◌-◌, slice_index}
 use Rattle.std.specs.Option.{option_map_or}
 use Rattle.decomposition.specs.Graph.{edge_count, tail}
-use Rattle.path_cover.specs.Search.{is_set, entry_at}
+use Rattle.dag_net.specs.Marks.{is_set}
+use Rattle.path_cover.specs.Search.{entry_at}
 use Rattle.path_cover.proofs.Searching.{Follows}
 use Rattle.path_cover.proofs.search.Search.follow_leaving.Given as goal
 

@@ -1,6 +1,7 @@
 use Rattle.std.proofs.Common.{◌≡◌, ◌+◌, ◌-◌, ◌<◌, false, length, slice_index, sym, subst, ◌∙◌, arith}
 use Rattle.decomposition.specs.Graph.{is_sink}
-use Rattle.path_cover.specs.Search.{is_set, entry_at}
+use Rattle.dag_net.specs.Marks.{is_set}
+use Rattle.path_cover.specs.Search.{entry_at}
 use Rattle.path_cover.proofs.Searching.{entry-read, Runs-more, Runs-all, vertex-below, IsSearch-few}
 use Rattle.path_cover.proofs.search.Search.run.Goals as goal
 use Rattle.path_cover.proofs.search.Search.run.Goals.{After-index}

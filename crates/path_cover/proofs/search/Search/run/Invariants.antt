@@ -1,5 +1,5 @@
 use Rattle.std.proofs.Common.{◌-◌, slice_index}
-use Rattle.path_cover.specs.Search.{is_set}
+use Rattle.dag_net.specs.Marks.{is_set}
 use Rattle.path_cover.proofs.Searching.{Runs}
 use Rattle.path_cover.proofs.search.Search.run.Given as goal
 

@@ -1,7 +1,9 @@
 use Rattle.std.proofs.Common.{◌≡◌, List, Bool, false, length, slice_index, sym, subst, arith}
-use Rattle.path_cover.specs.Search.{is_set, IsBegun}
+use Rattle.dag_net.specs.Marks.{is_set}
+use Rattle.path_cover.specs.Search.{IsBegun}
 use Rattle.path_cover.specs.declared.search.Reached.{Reached}
-use Rattle.path_cover.proofs.Searching.{IsBegun-empty, set-none}
+use Rattle.dag_net.proofs.Marks.{set-none}
+use Rattle.path_cover.proofs.Searching.{IsBegun-empty}
 use Rattle.path_cover.proofs.search.Search.sink_from_sources.Goals as goal
 
 pub enter_sources-requires : goal.enter_sources-requires
