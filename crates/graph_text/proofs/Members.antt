@@ -1,10 +1,8 @@
 -- Members of lists, and of what a filter keeps.
-use Rattle.std.proofs.Common.{◌≡◌, zero, suc, ◌∷◌, ◌⊎◌, List, [], Bool, true, filter, refl, sym, ap, subst, ◌∙◌, arith, inl, inr}
+use Rattle.std.proofs.Common.{◌≡◌, zero, suc, ◌∷◌, ◌⊎◌, List, [], Bool, true, filter, sym, ap, subst, ◌∙◌, arith, inl, inr}
 use Rattle.std.specs.Prelude.{Contains}
 use Rattle.std.proofs.lemmas.Bool.{false≢true, cond_both}
-
-Contains-head : {X : Type 0} (y : X) (ys : List X) → Contains (y ∷ ys) y
-Contains-head y ys = (0, omega arith, refl)
+use Rattle.dag_net.proofs.Lists.{Contains-head}
 
 Contains-cons : {X : Type 0} (y : X) (ys : List X) (x : X) → Contains ys x → Contains (y ∷ ys) x
 Contains-cons y ys x (k, lt, e) = (suc k, omega arith, e)

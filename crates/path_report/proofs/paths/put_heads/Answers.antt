@@ -2,7 +2,7 @@ use Rattle.std.proofs.Common.{arith, ap}
 use Rattle.graph_text.specs.Labels.{name_at, head_at}
 use Rattle.path_report.specs.Names.{graph_at}
 use Rattle.path_report.specs.Sending.{spaced}
-use Rattle.path_report.proofs.Runs.{run-place}
+use Rattle.decomposition.proofs.Runs.{run-place}
 use Rattle.path_report.proofs.SendingLemmas.{Sends-next, Stops-next, Sends-equal, Stops-equal, on_err}
 use Rattle.path_report.proofs.paths.put_heads.Goals as goal
 
