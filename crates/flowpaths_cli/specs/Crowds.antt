@@ -1,4 +1,4 @@
--- Rules that are taken in rising order.
+-- Rules through an edge that are taken in rising order, no two of them on one path.
 use Rattle.std.specs.Prelude.{ℕ, ◌<◌, ◌≤◌, ◌⊎◌, List, [], ◌∷◌, length, nat_lt, All, Contains, IsTrue}
 use Rattle.decomposition.specs.Graph.{contains_run, edge_count, RunsShareAPath}
 use Rattle.decomposition.specs.Answer.{is_ordered}

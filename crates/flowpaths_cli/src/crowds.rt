@@ -1,11 +1,11 @@
 //! Crowds: more rules through an edge than it can carry paths, no two of them on one path.
-ghost use Rattle.std.specs.Prelude.{◌≡◌, ◌+◌, ◌<◌, ◌↔◌, All, length, IfNone, IfOk, IfSome, IsFalse, IsTrue, OnOk};
+ghost use Rattle.std.specs.Prelude.{◌≡◌, ◌+◌, ◌<◌, ◌↔◌, ℕ, All, length, IfNone, IfOk, IfSome, IsFalse, IsTrue, OnOk};
 ghost use Rattle.std.specs.List.{list_all};
 ghost use Rattle.decomposition.specs.Certificates.{AreRunsApart, IsCrowd};
 ghost use Rattle.decomposition.specs.Graph.{edge_count, is_run};
 ghost use Rattle.flow_models.specs.Problem.{instance};
 ghost use Rattle.path_report.specs.Laws.{AreRisingRules};
-ghost use Rattle.flowpaths_cli.specs.Crowds.{AreTakenApart, EachCarriesTaken, IsHeldBack};
+ghost use Rattle.flowpaths_cli.specs.Crowds.{AreTakenApart, CarriesTaken, EachCarriesTaken, IsHeldBack};
 
 use cert_check::check_crowd;
 use dag_net::{Ids, Net};
@@ -27,6 +27,8 @@ pub fn find_crowd(alloc: Global, net: &Net, problem: &Problem) -> Result<Option<
     requires runs { IsTrue (list_all (is_run net.now) problem.now.rules) }
     ensures crowd { IfOk result (λ found. IfSome found (λ crowd. IsCrowd (instance net.now problem.now) crowd.edge crowd.rules)) }
     ensures rising { IfOk result (λ found. IfSome found (λ crowd. AreRisingRules crowd.rules)) }
+    ensures taken { IfOk result (λ found. IfSome found (λ crowd. AreTakenApart (length problem.now.rules) (instance net.now problem.now) crowd.edge crowd.rules)) }
+    ensures first { IfOk result (λ found. IfSome found (λ crowd. (e : ℕ) → e < crowd.edge → CarriesTaken (instance net.now problem.now) e)) }
     ensures none { IfOk result (λ found. IfNone found (EachCarriesTaken (instance net.now problem.now))) }
 {
     for edge in 0..net.edges() {
