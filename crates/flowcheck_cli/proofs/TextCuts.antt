@@ -46,10 +46,6 @@ glued-text : (front text : List ℕ) (texts : List (List ℕ)) → glued front (
 glued-text [] text texts = refl
 glued-text (a ∷ front) text texts = refl
 
-glued-last : (front : List ℕ) → 0 < length front → glued front [] ≡ front ∷ []
-glued-last [] some = absurd (omega (arith, some))
-glued-last (a ∷ front) some = refl
-
 -- the texts of bytes of which the first n are whole lines, none of them an `end`
 abbrev pub BeginsText : List ℕ → ℕ → Type 0
 BeginsText bytes n = report_texts bytes ≡ glued (take n bytes) (report_texts (drop n bytes))
@@ -77,15 +73,6 @@ ends-text bytes n m begins first is =
     begins ∙ ap (glued (take n bytes)) texts ∙ glued-text (take n bytes) (take m rest) (report_texts (drop m rest))
     ∙ ap (λ front. front ∷ report_texts (drop m rest)) (sym (take-add n m bytes))
     ∙ ap (λ left. take (n + m) bytes ∷ report_texts left) (drop-drop m n bytes)
-
--- bytes that end without a line `end` are one text
-pub last-text : (bytes : List ℕ) (n : ℕ) → BeginsText bytes n → 0 < length bytes → length bytes ≤ n →
-    report_texts bytes ≡ take n bytes ∷ report_texts (drop n bytes)
-last-text bytes n begins some all =
-    let none : drop n bytes ≡ [] = drop_all n bytes all in
-    let front : take n bytes ≡ bytes = take_all n bytes all in
-    begins ∙ ap (λ left. glued (take n bytes) (report_texts left)) none ∙ glued-last (take n bytes) (omega (arith, ap length front, some))
-    ∙ ap (λ left. take n bytes ∷ report_texts left) (sym none)
 
 -- the same two steps, with the rest and the length of its first line as they are read
 pub begins-after : (bytes rest : List ℕ) (n m k : ℕ) → rest ≡ drop n bytes → k ≡ m → BeginsText bytes n → IsLineOf rest m → 0 < m → m ≤ length rest →

@@ -152,11 +152,3 @@ without-seed (Some n) seed P is = tt
 pub with-seed : (demo : Option ℕ) (seed : ℕ) (P : ℕ → Type 0) → demo ≡ Some seed → P seed → IfSome demo P
 with-seed None seed P is holds = tt
 with-seed (Some n) seed P is holds = let same : seed ≡ n = cc in subst P same holds
-
-pub where-none : (demo : Option ℕ) (P : Type 0) → P → IfNone demo P
-where-none None P holds = holds
-where-none (Some n) P holds = tt
-
-pub no-seed : (demo : Option ℕ) (P : ℕ → Type 0) → demo ≡ None → IfSome demo P
-no-seed None P is = tt
-no-seed (Some n) P is = absurd (let e : ◌≡◌ {A = Option ℕ} (Some n) None = is in cc)

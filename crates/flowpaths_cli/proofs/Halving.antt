@@ -1,5 +1,5 @@
 -- Searches for less error, each for half of what lies between the bounds.
-use Rattle.std.proofs.Common.{◌≡◌, ℕ, ◌+◌, ◌-◌, ◌*◌, ◌/◌, ◌≤◌, ◌<◌, ◌^◌, List, [], ◌∷◌, Some, Result, Ok, Err, length, refl, ap, subst, ◌∙◌, inl, inr, arith}
+use Rattle.std.proofs.Common.{◌≡◌, ℕ, ◌+◌, ◌-◌, ◌*◌, ◌≤◌, ◌<◌, ◌^◌, List, [], ◌∷◌, Some, Result, Ok, Err, length, refl, ap, subst, ◌∙◌, inl, inr, arith}
 use Rattle.std.specs.Prelude.{IfOk}
 use Rattle.std.proofs.lemmas.Bool.{cases_Bool}
 use Rattle.std.proofs.lemmas.List.{length-map}
@@ -20,10 +20,9 @@ use Rattle.path_report.specs.declared.report.Trail.{Trail}
 use Rattle.flowpaths_cli.specs.Booking.{AreBookedFor, upper_bound}
 use Rattle.flowpaths_cli.specs.declared.searching.Attempt.{Attempt}
 use Rattle.flowpaths_cli.specs.declared.searching.Attempt.TheVariants.{Found, Refuted, Spent}
-use Rattle.flowpaths_cli.specs.Halved.{IsBetween, IsSpentBetween}
-use Rattle.flowpaths_cli.specs.Searched.{IsFoundFor, IsKnown, IsNoWorseThanBooked, IsRefutedBy, IsSpentBy, any_error}
+use Rattle.flowpaths_cli.specs.Halved.{IsBetween}
+use Rattle.flowpaths_cli.specs.Searched.{IsFoundFor, IsKnown, IsNoWorseThanBooked, IsRefutedBy, any_error}
 use Rattle.flowpaths_cli.proofs.Bounded.{entries_small, error-le}
-use Rattle.flowpaths_cli.proofs.Solved.{trail_for}
 
 -- the decision that asks for at most k paths with an error within a limit
 abbrev pub half : ℕ → ℕ → Decision
@@ -85,10 +84,6 @@ between_refuted nodes k i a lower upper limit cert tree valid between low refute
       speaks = refuted.small;
       bound = trees_bound (Abs k) i (limit + 1) tree.tokens valid bounding;
     }
-
--- the search was spent
-pub spent_between : (nodes k : ℕ) (i : Instance) (lower upper : ℕ) (trail : Trail) → lower < upper → IsSpentBy nodes i (half k ((lower + upper) / 2)) trail → IsSpentBetween nodes k i lower upper (Some trail)
-spent_between nodes k i lower upper trail apart spent = (apart, trail_for nodes (Abs k) i (half k ((lower + upper) / 2)) lower (Some upper) trail spent refl, spent.small)
 
 -- booked paths put on an edge at most as many units as there are
 units-le : (ps : List (List ℕ)) (e : ℕ) → weight_on (with_unit ps) e ≤ length ps

@@ -1,10 +1,8 @@
 -- Ranges whose lower bounds are raised to given numbers, as the units of booked paths.
-use Rattle.std.proofs.Common.{◌≡◌, ℕ, ◌+◌, ◌≤◌, ◌<◌, max, List, [], ◌∷◌, ◌++◌, true, ◌&&◌, nat_le, Option, Some, None, Result, Ok, Err, length, length-append, get_or, refl, sym, ap, subst, ◌∙◌, inl, inr, arith, leb-true, le-leb}
+use Rattle.std.proofs.Common.{◌≡◌, ℕ, ◌≤◌, ◌<◌, List, true, ◌&&◌, nat_le, Option, Some, None, Result, Ok, Err, length, refl, arith, leb-true, le-leb}
 use Rattle.std.specs.List.{list_all}
 use Rattle.std.specs.Prelude.{IfOk, MatchOption, slice_index}
-use Rattle.std.proofs.Math.ListN.{get_or-append}
-use Rattle.std.proofs.Math.Seq.{get_or-append_seam}
-use Rattle.std.proofs.lemmas.Bool.{and_from, and_parts, cases_eq}
+use Rattle.std.proofs.lemmas.Bool.{and_from, and_parts}
 use Rattle.decomposition.specs.declared.Range.{Range}
 use Rattle.decomposition.specs.declared.Side.TheVariants.{Entering, Leaving}
 use Rattle.decomposition.specs.Answer.{weight_on}
@@ -19,34 +17,10 @@ use Rattle.lower_flow.specs.declared.found.FlowOrCut.{FlowOrCut}
 use Rattle.lower_flow.specs.declared.found.FlowOrCut.TheVariants.{Flow, InCut, OutCut}
 use Rattle.lower_flow.specs.Found.{IsFlowOrCut}
 use Rattle.flowpaths_cli.specs.Right.{NothingIsWithin}
-use Rattle.flowpaths_cli.specs.Room.{AreRaised, AreRaisedBefore, HasNoneAbove, HasNoRoomFor, HasRoomFor, IsFlowAbove, IsFlowIn, IsPassed, ranged}
+use Rattle.flowpaths_cli.specs.Room.{AreRaised, HasNoneAbove, HasNoRoomFor, HasRoomFor, IsFlowAbove, IsFlowIn, IsPassed, ranged}
 
 abbrev none : Range
 none = record { lo = 0; hi = 0 }
-
--- one range more
-pub raised-more : (n : ℕ) (ranges : List Range) (least : List ℕ) (raised : List Range) (low high : ℕ) → AreRaisedBefore n ranges least raised
-    → low ≡ max (range_at ranges n).lo (slice_index least n) → high ≡ (range_at ranges n).hi → slice_index least n ≤ (range_at ranges n).hi
-    → AreRaisedBefore (n + 1) ranges least (raised ++ record { lo = low; hi = high } ∷ [])
-raised-more n ranges least raised low high before is_low is_high fits =
-    let r : Range = record { lo = low; hi = high } in
-    let last : range_at (raised ++ r ∷ []) n ≡ r = subst (λ m. get_or (raised ++ r ∷ []) m none ≡ r) before.count (get_or-append_seam raised r [] none) in
-    let old : (e : ℕ) → e < n → range_at (raised ++ r ∷ []) e ≡ range_at raised e = λ e there. get_or-append raised (r ∷ []) none e (omega (arith, there, before.count)) in
-    record {
-      count = omega (arith, length-append raised (r ∷ []), before.count);
-      low = λ e there. elim (cases_eq e n) [
-        | inl is ↦ subst (λ m. (range_at (raised ++ r ∷ []) m).lo ≡ max (range_at ranges m).lo (slice_index least m)) (sym is) (ap (λ (s : Range). s.lo) last ∙ is_low)
-        | inr other ↦ ap (λ (s : Range). s.lo) (old e (omega (arith, there, other))) ∙ before.low e (omega (arith, there, other))
-      ];
-      high = λ e there. elim (cases_eq e n) [
-        | inl is ↦ subst (λ m. (range_at (raised ++ r ∷ []) m).hi ≡ (range_at ranges m).hi) (sym is) (ap (λ (s : Range). s.hi) last ∙ is_high)
-        | inr other ↦ ap (λ (s : Range). s.hi) (old e (omega (arith, there, other))) ∙ before.high e (omega (arith, there, other))
-      ];
-      fits = λ e there. elim (cases_eq e n) [
-        | inl is ↦ subst (λ m. slice_index least m ≤ (range_at ranges m).hi) (sym is) fits
-        | inr other ↦ before.fits e (omega (arith, there, other))
-      ];
-    }
 
 -- raised ranges are ranges
 pub raised-bounded : (ranges : List Range) (least : List ℕ) (raised : List Range) → list_all (λ (r : Range). nat_le r.lo r.hi && nat_le r.hi 1000000000000) ranges ≡ true → AreRaised ranges least raised

@@ -1,5 +1,5 @@
 -- What is settled of a flow, and more along a path.
-use Rattle.std.proofs.Common.{◌≡◌, ℕ, ◌+◌, ◌-◌, ◌≤◌, ◌<◌, ◌^◌, ◌==◌, ◌&&◌, nat_le, cond, List, [], ◌∷◌, ◌++◌, true, length, length-append, get_or, slice_index, sym, subst, ◌∙◌, inl, inr, arith, leb-true, eqb-true}
+use Rattle.std.proofs.Common.{◌≡◌, ℕ, ◌+◌, ◌-◌, ◌≤◌, ◌<◌, ◌==◌, ◌&&◌, nat_le, cond, List, [], ◌∷◌, ◌++◌, true, length, length-append, get_or, slice_index, sym, subst, ◌∙◌, inl, inr, arith, leb-true, eqb-true}
 use Rattle.std.specs.List.{list_all}
 use Rattle.std.specs.Prelude.{All}
 use Rattle.std.proofs.Math.ListN.{get_or-append}
@@ -13,7 +13,7 @@ use Rattle.decomposition.proofs.Members.{any-place}
 use Rattle.decomposition.proofs.Root.{all-place}
 use Rattle.greedy_paths.proofs.Decomposing.{path-enough, path-inside}
 use Rattle.flowpaths_cli.specs.declared.thin.Settling.{Settling}
-use Rattle.flowpaths_cli.specs.Room.{AreAtMost, FitsAlong, IsAddedAlong, IsFlowAbove, IsLeftOf, IsSettling}
+use Rattle.flowpaths_cli.specs.Room.{FitsAlong, IsAddedAlong, IsFlowAbove, IsLeftOf, IsSettling}
 
 -- one edge more
 pub left-more : (n : ℕ) (flow settled left : List ℕ) (x : ℕ) → IsLeftOf n flow settled left → x ≡ slice_index flow n - slice_index settled n → IsLeftOf (n + 1) flow settled (left ++ x ∷ [])
@@ -50,10 +50,6 @@ added-at_most n more settled path sums flow added at_most fits e inside = elim (
       omega (arith, is, at_most e inside)
 ]
 
--- and no less than before
-pub added-more : (more : ℕ) (settled path sums : List ℕ) → IsAddedAlong settled path more sums → AreAtMost settled sums
-added-more more settled path sums added e inside = omega (arith, added.each e)
-
 module _ (g : Graph) (ranges : List Range) (s : Settling) (one_each : length ranges ≡ edge_count g) (settling : IsSettling g ranges s) where
   -- what is settled passes no upper bound
   pub settled-fits : (path : List ℕ) → All (λ e. e < edge_count g) path → FitsAlong ranges s.settled.items 0 path
@@ -86,11 +82,3 @@ settling-more g ranges s t path more same settling added fits = record {
     above = added-at_most (edge_count g) more s.settled.items path t.settled.items s.flow added settling.flow.above fits;
   });
 }
-
--- what passes no upper bound is small
-pub fits-small : (g : Graph) (ranges : List Range) (settled path : List ℕ) (more : ℕ) → length ranges ≡ edge_count g → list_all (λ (r : Range). nat_le r.lo r.hi && nat_le r.hi 1000000000000) ranges ≡ true
-    → IsPath g path → FitsAlong ranges settled more path → All (λ e. slice_index settled e + more < 2 ^ 64) path
-fits-small g ranges settled path more one_each bounded is_path fits k d h =
-    let e = get_or path k d in
-    let there : e < length ranges = omega (arith, path-inside g path is_path k d h, one_each) in
-    omega (arith, fits k d h, high_small ranges e bounded there)

@@ -56,18 +56,6 @@ pub record IsWidening (g : Graph) (weights : List ℕ) (booked a : List (List �
   pub widened : IsWidened g (slice_index weights) booked (length a) a
   pub units : AreUnits g a sums
 
-pub IsWidening-start : (g : Graph) (weights : List ℕ) (booked : List (List ℕ × ℕ)) (units : List ℕ) → IsAnswer g booked → AreUnits g booked units → IsWidening g weights booked booked units
-IsWidening-start g weights booked units answer counts = record {
-  widened = record {
-    others = [];
-    begins = sym (append-nil booked);
-    answer = answer;
-    most = λ e inside. omega arith;
-    widest = let none : 0 ≡ length booked - length booked = omega arith in subst (λ n. IsWidestFirstUpTo g (λ e. slice_index weights e - weight_on booked e) n []) none refl;
-  };
-  units = counts;
-}
-
 module _ (g : Graph) (weights : List ℕ) (booked a : List (List ℕ × ℕ)) (sums left : List ℕ) (one_each : length weights ≡ edge_count g) (are : IsLeftOf (length weights) weights sums left) (so_far : IsWidening g weights booked a sums) where
   -- what is left is what the others leave of what the booked paths leave
   left_is : (e : ℕ) → slice_index left e ≡ (slice_index weights e - weight_on booked e) - weight_on so_far.widened.others e
