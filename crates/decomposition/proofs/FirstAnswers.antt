@@ -10,7 +10,7 @@ use Rattle.decomposition.specs.Graph.{Graph, has_edge}
 use Rattle.decomposition.specs.Answer.{weight_on, weight_of, same_path}
 use Rattle.decomposition.specs.Flow.{rest_after}
 use Rattle.decomposition.specs.FirstAnswer.{path_width, IsWidest, IsWidestFirst, with_unit}
-use Rattle.decomposition.specs.Laws.{WidestFirstIsFirstAnswer}
+use Rattle.decomposition.specs.Laws.{MergedIsLeast, WidestFirstIsFirstAnswer}
 use Rattle.decomposition.proofs.Merging.{without, weight_of-without, no_weight}
 use Rattle.decomposition.proofs.Rules.{widest_first_is_unique}
 
@@ -49,6 +49,9 @@ merged_least (x ∷ a) b once positive same =
           omega (arith, same p, weight_of-without x.0 p b, cond-false (pointwise (λ d e. d == e) x.0 p) 0 (weight_of b p) h, cond-false (pointwise (λ d e. d == e) x.0 p) x.1 0 h)
     ]) in
     omega (arith, rest, without-less x.0 b there)
+
+pub merged_is_least : MergedIsLeast
+merged_is_least old new other merged same = merged_least new other merged.once merged.positive (λ p. merged.same p ∙ sym (same p))
 
 path_width-same : (f h : ℕ → ℕ) (p : List ℕ) → ((e : ℕ) → f e ≡ h e) → path_width f p ≡ path_width h p
 path_width-same f h [] same = refl

@@ -2,6 +2,7 @@
 ghost use Rattle.std.specs.Prelude.{◌≡◌};
 
 use std::alloc::AllocError;
+use thiserror::Error;
 
 /// What is wrong with a line, in the order in which the causes count on one line.
 #[derive(Clone, Copy, Debug, PartialEq, Eq)]
@@ -26,11 +27,13 @@ pub struct ReadRefusal {
 }
 
 /// Why there is no report.
-#[derive(Debug, Drop)]
+#[derive(Debug, Drop, Error)]
 pub enum ReadFault {
     /// The text is that of no report.
+    #[error("line {} is that of no report", .0.line)]
     Refused(ReadRefusal),
     /// There was too little memory.
+    #[error("out of memory")]
     Memory,
 }
 
