@@ -82,6 +82,6 @@ case :$PATH: in
         ;;
     *)
         say "$prefix/bin is not on PATH. Put this line into ~/.profile, and into this shell:"
-        echo "    PATH=$prefix/bin:\$PATH"
+        echo "    PATH=\"$prefix/bin:\$PATH\""
         ;;
 esac
