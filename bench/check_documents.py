@@ -10,7 +10,7 @@ docs/man/*.1, and at what stands in tools/.
   the next one, or to the end of the block, are its exact output, standard error included. A block whose first line is no command is passed over. The
   commands of one document run one after another in a folder of their own, which has links to what stands at the repository's top. Each has a
   shell of its own, in which `$?` is the status of the command before it.
-- Every file that a document links to or names is there, and no line of prose has more than 160 characters.
+- Every file that a document links to or names is there, and every section named behind a document. No line of prose has more than 160 characters.
 - A manual page is shown without a warning.
 - Every tool tells its usage where its arguments are wrong, with status 2, and is shown in a document.
 - `dot` takes the drawings of every example, and a run over parts gives the same bytes as one run.
@@ -130,6 +130,13 @@ def names_in(line):
             yield name
 
 
+def lost_sections(document):
+    """The sections that a document names, as `docs/FORMATS.md`, "Lines", and that are not there."""
+    text = " ".join(line for _, line, is_code in parts_of(document) if not is_code)
+    named = [(TOP / name, title) for name, title in re.findall(r'((?:docs/)?[A-Z]+[.]md)`?, "([^"]+)"', text)]
+    return [f'{path.name} has no section "{title}"' for path, title in named if not path.is_file() or f"# {title}\n" not in path.read_text(encoding="utf-8")]
+
+
 def check_text(document, files, counts):
     """Looks for files that are not there, and for long lines."""
     lost, long = [], []
@@ -141,7 +148,7 @@ def check_text(document, files, counts):
         lost += [f"line {number}: {name} is not there" for name in names_in(re.sub(r"\]\([^)]*\)", "]", line)) if not is_there(name, files)]
         if len(line) > WIDEST and not re.match(r"\||    ", line):
             long.append(f"line {number}: {len(line)} characters")
-    counts.check(document.relative_to(TOP), lost)
+    counts.check(document.relative_to(TOP), lost + lost_sections(document))
     counts.check(document.relative_to(TOP), long)
 
 
