@@ -116,7 +116,7 @@ def check_commands(document, folder, counts):
 
 def is_there(name, files):
     """Whether a file that is named stands at the top, or somewhere below, where folders may be left out: graph_text/reader.rt is in graph_text/src."""
-    pattern = re.sub(r"(?<![^/])[A-Z]+(?![^/.])", "*", name.rstrip("/"))
+    pattern = re.sub(r"(?<![^/])[A-Z_]+(?![^/.])", "*", name.rstrip("/"))
     parts = "/(.*/)?".join(map(re.escape, name.split("/")))
     return (TOP / name).exists() or any(TOP.glob(pattern)) or any(re.fullmatch(f"(.*/)?{parts}", file) for file in files)
 
