@@ -15,7 +15,7 @@ docs/man/*.1, and at what stands in tools/.
 - Every tool tells its usage where its arguments are wrong, with status 2, and is shown in a document.
 - `dot` takes the drawings of every example, and a run over parts gives the same bytes as one run.
 
-What calls a program that this machine lacks (dot, parallel, man) is skipped. The last line is `N passed, M failed`, and tells how many were skipped,
+What calls a program that this machine lacks (dot, parallel, man) is skipped, and what follows it in a section of a document. The last line is `N passed, M failed`, and tells how many were skipped,
 if any.
 """
 import os
@@ -84,13 +84,14 @@ def parts_of(document):
 
 
 def blocks_of(document):
-    """The commands of each block: of each the number of its line, its text, and the lines shown as its output."""
-    commands, is_console = [], False
+    """Of each block the number of its section, and its commands: of each the number of its line, its text, and the lines shown as its output."""
+    commands, is_console, section = [], False, 0
     for number, line, is_code in parts_of(document):
+        section += not is_code and re.match("#+ |[.]SH ", line) is not None
         if line in ("```console", ".EX"):
             commands, is_console = [], True
         elif line in ("```", ".EE"):
-            yield commands
+            yield section, commands
             commands, is_console = [], False
         elif is_code and is_console and line.startswith("$ "):
             commands.append((number, line[2:], []))
@@ -101,13 +102,16 @@ def blocks_of(document):
 
 
 def check_commands(document, folder, counts):
-    """Runs the commands of a document. From one on that calls a program which this machine lacks, its block is skipped."""
-    for commands in blocks_of(document):
+    """Runs the commands of a document. From one on that calls a program which this machine lacks, its section is skipped."""
+    skipped = None
+    for section, commands in blocks_of(document):
         status = 0
-        for place, (number, command, shown) in enumerate(commands):
+        for number, command, shown in commands:
             if any(re.search(rf"(^|[\s|;&('])({name})(\s|$)", command) for name in LACKED):
-                counts.skipped += len(commands) - place
-                break
+                skipped = section
+            if skipped == section:
+                counts.skipped += 1
+                continue
             printed, status = run(f"(exit {status})\n{command}", folder)
             difference = unified_diff(shown, printed.splitlines(), "shown", "printed", lineterm="")
             faults = "\n".join(difference)
@@ -226,7 +230,7 @@ def main():
             check_text(document, files, counts)
             if document.suffix == ".1":
                 check_page(document, counts)
-        shown = [command for document in DOCUMENTS for commands in blocks_of(document) for _, command, _ in commands]
+        shown = [command for document in DOCUMENTS for _, commands in blocks_of(document) for _, command, _ in commands]
         for tool in TOOLS:
             check_tool(tool, shown, counts)
         with tempfile.TemporaryDirectory() as folder:
