@@ -192,7 +192,7 @@ fn are_lines(forms: &[&str], rest: &str, text: &str) -> bool {
         let Some((line, more)) = lines.split_once('\n') else {
             return false;
         };
-        if !forms.contains(&line) {
+        if !forms.iter().any(|form| *form == line) {
             return false;
         }
         lines = more;
