@@ -1,8 +1,8 @@
 //! Runs of the checker of reports on two inputs in memory.
 
-use crate::models::BEGINNINGS;
-use crate::rows::{REPORTS, THREE, THREE_REPORTS};
-use crate::runs::{owned, run};
+use crate::free::FREE;
+use crate::rows::{ONE, ONE_REPORT, REPORTS, THREE, THREE_REPORTS};
+use crate::runs::{owned, run_on};
 use flow_io::{MemInputs, MemOutput, Status};
 use flowcheck_cli::flowcheck;
 use std::alloc::{AllocError, Global};
@@ -14,23 +14,17 @@ const NAMES: [&str; 2] = ["x.graph", "x.report"];
 /// The room of an output that holds every line of a trial.
 const ROOM: usize = 4096;
 
-/// A graph of one edge, and its report.
-const GRAPH: &str = "# one\n2\ns t 5\n";
-
-const REPORT: &str =
-    "graph 1 one\nmodel exact\nmark optimal\nlower 1\nupper 1\npath 5 s t\ncert wide 1\nedge s t\nend\n";
-
-/// A graph of nine edges, and its report.
+/// A graph of nine edges, and its report with safe runs.
 const WAGONS: &str =
     "# wagons\n7\nmine yard 55\nyard j1 40\nj1 port 40\nyard j2 24\nj2 mill 15\nquarry yard 9\nj2 port 9\nquarry j1 6\nj1 mill 6\n";
 
 const WAGONS_REPORT: &str =
-    "graph 1 wagons\nmodel exact\nmark optimal\nlower 4\nupper 4\npath 40 mine yard j1 port\npath 15 mine yard j2 mill\npath 9 quarry yard j2 port\npath 6 quarry j1 mill\ncert wide 4\nedge yard j1\nedge j2 mill\nedge j2 port\nedge quarry j1\nend\n";
+    "graph 1 wagons\nmodel exact\nmark optimal\nlower 4\nupper 4\npath 40 mine yard j1 port\npath 15 mine yard j2 mill\npath 9 quarry yard j2 port\npath 6 quarry j1 mill\ncert wide 4\nedge yard j1\nedge j2 mill\nedge j2 port\nedge quarry j1\nsafe 6\nrun mine yard j1 port\nrun mine yard j2 mill\nrun yard j2 port\nrun quarry yard\nrun quarry j1\nrun j1 mill\nend\n";
 
 /// Graphs, texts of reports, and the lines and the status that they come to.
-const CHECKS: [(&str, &str, &str, Status); 15] = [
+const CHECKS: [(&str, &str, &str, Status); 16] = [
     ("", "", "", Status::Clean),
-    (GRAPH, REPORT, "graph 1 yes\n", Status::Clean),
+    (ONE, ONE_REPORT, "graph 1 yes\n", Status::Clean),
     (WAGONS, WAGONS_REPORT, "graph 1 yes\n", Status::Clean),
     (
         THREE,
@@ -39,56 +33,62 @@ const CHECKS: [(&str, &str, &str, Status); 15] = [
         Status::Clean,
     ),
     (
-        GRAPH,
+        ONE,
         "graph 1 one\nmodel exact\nmark optimal\nlower 1\nupper 1\npath 4 s t\ncert wide 1\nedge s t\nend\n",
         "graph 1 no 5\n",
         Status::Partial,
     ),
     (
-        GRAPH,
+        ONE,
         "graph 1 one\nmodel exact\nmark optimal\nlower 1\nupper 2\npath 5 s t\ncert wide 1\nedge s t\nend\n",
         "graph 1 no 3\n",
         Status::Partial,
     ),
     (
-        GRAPH,
+        ONE,
         "graph 2 one\nmodel exact\nmark optimal\nlower 1\nupper 1\npath 5 s t\ncert wide 1\nedge s t\nend\n",
         "graph 1 no 1\n",
         Status::Partial,
     ),
     (
-        GRAPH,
+        ONE,
         "graph 1 two\nmodel exact\nmark optimal\nlower 1\nupper 1\npath 5 s t\ncert wide 1\nedge s t\nend\n",
         "graph 1 no 1\n",
         Status::Partial,
     ),
     (
-        GRAPH,
+        ONE,
         "graph 1 one\nmodel exact\nrefused 3 BadFields\nend\n",
         "graph 1 no 3\n",
         Status::Partial,
     ),
     (
-        GRAPH,
+        ONE,
         "graph 1 one\nmodel exact\nmark optimal\nlower 1\nupper 1\npath 5 s u\ncert wide 1\nedge s t\nend\n",
         "graph 1 unread 6 BadName\n",
         Status::Refused,
     ),
     (
-        GRAPH,
+        ONE,
+        "graph 1 one\nmodel exact\nmark optimal\nlower 1\nupper 1\npath 5 s t\ncert wide 1\nedge t s\nend\n",
+        "graph 1 unread 8 BadName\n",
+        Status::Refused,
+    ),
+    (
+        ONE,
         "graph 1 one\nmodel exact\nmark optimal\n",
         "graph 1 unread 4 NoEnd\n",
         Status::Refused,
     ),
-    (GRAPH, "", "blocks 1 reports 0\n", Status::Refused),
+    (ONE, "", "blocks 1 reports 0\n", Status::Refused),
     (
         "# one\n2\ns t 5\n# two\n2\ns t 5\n",
-        REPORT,
+        ONE_REPORT,
         "graph 1 yes\nblocks 2 reports 1\n",
         Status::Refused,
     ),
     (
-        GRAPH,
+        ONE,
         "graph 1 one\nmodel exact\nmark optimal\nlower 1\nupper 1\npath 5 s t\ncert wide 1\nedge s t\nend\nend\n",
         "graph 1 yes\nblocks 1 reports 2\n",
         Status::Refused,
@@ -147,14 +147,7 @@ fn yes_lines(alloc: Global, count: usize) -> Result<String, AllocError> {
 
 /// Whether the checker says yes, and nothing else, of each report that `flowpaths` writes for this graph.
 fn is_answered_yes(alloc: Global, words: &[&str], graph: &str) -> Result<bool, Fail> {
-    let mut inputs = MemInputs::new(alloc, 4096);
-    inputs.add("-", graph.as_bytes())?;
-    let ran = run(
-        alloc,
-        words,
-        &mut inputs,
-        MemOutput::new(alloc, ROOM, ROOM)?,
-    )?;
+    let ran = run_on(alloc, words, graph, 4096)?;
     let report = str::from_utf8(ran.out.bytes())?;
     let mut inputs = inputs_of(alloc, graph, report, 4096)?;
     let checked = check(
@@ -171,16 +164,18 @@ fn is_answered_yes(alloc: Global, words: &[&str], graph: &str) -> Result<bool, F
 #[test]
 fn own_reports_are_answered_yes(rt: HostRuntime) -> Result<(), Fail> {
     let alloc = rt.alloc();
-    for (graph, _, _) in REPORTS {
-        assert!(rt;
-            is_answered_yes(alloc, &[], graph)?,
-            "the reports on {graph}"
-        );
-    }
-    for (words, graph, _, _) in BEGINNINGS {
+    for (words, graph, _, _) in REPORTS {
         assert!(rt;
             is_answered_yes(alloc, words, graph)?,
-            "the reports on {graph}"
+            "the reports of {words:?} on {graph}"
+        );
+    }
+    for free in &FREE {
+        assert!(rt;
+            is_answered_yes(alloc, free.words, free.input)?,
+            "the reports of {:?} on {}",
+            free.words,
+            free.input
         );
     }
     Ok(())
@@ -265,7 +260,7 @@ fn two_words_are_wanted(rt: HostRuntime) -> Result<(), Fail> {
         &["x.graph", "x.report", "x.graph"],
     ];
     for words in refused {
-        let mut inputs = inputs_of(alloc, GRAPH, REPORT, 16)?;
+        let mut inputs = inputs_of(alloc, ONE, ONE_REPORT, 16)?;
         let checked = check(
             alloc,
             words,

@@ -1,6 +1,6 @@
 //! Inputs and outputs that fail.
 
-use crate::rows::{THREE, THREE_REPORTS};
+use crate::rows::{ONE, THREE, THREE_REPORTS};
 use crate::runs::run;
 use flow_io::{MemInputs, MemOutput, Status};
 use std::test::Fail;
@@ -48,7 +48,7 @@ fn writes_fail(rt: HostRuntime) -> Result<(), Fail> {
 fn room_ends(rt: HostRuntime) -> Result<(), Fail> {
     let alloc = rt.alloc();
     let mut inputs = MemInputs::new(alloc, 16);
-    inputs.add("-", b"# one\n2\ns t 5\n")?;
+    inputs.add("-", ONE.as_bytes())?;
     let ran = run(alloc, &[], &mut inputs, MemOutput::new(alloc, 7, 10)?)?;
     assert_eq!(rt; ran.status, Status::Fault);
     assert!(rt; ran.out.bytes() == "graph 1 on".as_bytes());

@@ -1,6 +1,8 @@
 //! Runs over generated texts.
 
+use crate::rows::ONE;
 use crate::runs::{ROOM, run};
+use demo_text::demo;
 use flow_io::{MemInputs, MemOutput, Status};
 use std::test::Fail;
 
@@ -18,13 +20,24 @@ const COUNTS: [(&[&str], &str, Status); 2] = [
     ),
 ];
 
+/// The beginning of the text that the seed 1 gives.
+const TEXT: &str =
+    "# demo 1\n6\ns a1 32\na1 b0 16\nb0 t 23\na1 b2 16\nb2 t 16\ns a0 7\na0 b0 7\n# demo 2\n";
+
+#[test]
+fn the_seed_1_gives_this_text(rt: HostRuntime) -> Result<(), Fail> {
+    let text = demo(rt.alloc(), 1)?;
+    assert!(rt; text.as_slice().starts_with(TEXT.as_bytes()));
+    Ok(())
+}
+
 /// The first call of these inputs fails, so a run that selects or reads one of them ends with a fault.
 #[test]
 fn graphs_are_counted(rt: HostRuntime) -> Result<(), Fail> {
     let alloc = rt.alloc();
     for (words, lines, status) in COUNTS {
         let mut inputs = MemInputs::new(alloc, 16);
-        inputs.add("-", b"# one\n2\ns t 5\n")?;
+        inputs.add("-", ONE.as_bytes())?;
         inputs.fail_at(0)?;
         let ran = run(
             alloc,

@@ -5,20 +5,16 @@ mod answered;
 #[cfg(test)]
 mod checks;
 #[cfg(test)]
-mod constraints;
-#[cfg(test)]
-mod diamonds;
-#[cfg(test)]
 mod faults;
+#[cfg(test)]
+mod free;
 #[cfg(test)]
 mod generated;
 #[cfg(test)]
-mod models;
+mod refused;
 #[cfg(test)]
 mod rows;
 mod runs;
-#[cfg(test)]
-mod safe;
 #[cfg(test)]
 mod words;
 

@@ -38,10 +38,10 @@ pub fn run(
     Ok(Ran { status, out, notes })
 }
 
-/// Runs the top call on this standard input, which comes in pieces of so many bytes.
-pub fn run_on(alloc: Global, input: &str, chunk: usize) -> Result<Ran, AllocError> {
+/// Runs the top call on these words and this standard input. What is read and what is written goes in pieces of so many bytes.
+pub fn run_on(alloc: Global, words: &[&str], input: &str, chunk: usize) -> Result<Ran, AllocError> {
     let mut inputs = MemInputs::new(alloc, chunk.max(1));
     inputs.add("-", input.as_bytes())?;
-    let out = MemOutput::new(alloc, ROOM, ROOM)?;
-    run(alloc, &[], &mut inputs, out)
+    let out = MemOutput::new(alloc, chunk.max(1), ROOM)?;
+    run(alloc, words, &mut inputs, out)
 }

@@ -8,7 +8,7 @@ use crate::problems::DIAMONDS;
 use dag_net::{Answer, IdLists, Ids, Net};
 use greedy_paths::{GreedyFault, book, decompose, decompose_with};
 use safe_paths::maximal_safe;
-use std::alloc::Global;
+use std::alloc::{AllocError, Global};
 use std::test::Fail;
 use subpath_rules::Rules;
 
@@ -70,6 +70,25 @@ fn is_flow(net: &Net, flow: &[u64]) -> bool
 /// Whether the entry has this path and this weight.
 fn is_entry(answer: &Answer, i: usize, path: &[u32], weight: u64) -> bool {
     i < answer.len() && answer.path(i).as_slice() == path && answer.weight(i) == weight
+}
+
+/// The path of one edge.
+fn only_edge(alloc: Global) -> Result<Ids, AllocError> {
+    let mut path = Ids::new(alloc);
+    path.push(0)?;
+    Ok(path)
+}
+
+#[test]
+fn equal_paths_are_merged(rt: HostRuntime) -> Result<(), Fail> {
+    let alloc = rt.alloc();
+    let mut answer = Answer::new(alloc);
+    answer.push(only_edge(alloc)?, 2)?;
+    answer.push(only_edge(alloc)?, 3)?;
+    let tidied = answer.tidy(alloc)?;
+    assert_eq!(rt; tidied.len(), 1);
+    assert!(rt; is_entry(&tidied, 0, &[0], 5));
+    Ok(())
 }
 
 #[test]
