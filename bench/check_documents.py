@@ -15,8 +15,8 @@ docs/man/*.1, and at what stands in tools/.
 - Every tool tells its usage where its arguments are wrong, with status 2, and is shown in a document.
 - `dot` takes the drawings of every example, and a run over parts gives the same bytes as one run.
 
-What calls a program that this machine lacks (dot, parallel, man) is skipped, and what follows it in a section of a document. The last line is `N passed, M failed`, and tells how many were skipped,
-if any.
+What calls a program that this machine lacks (dot, parallel, man) is skipped, and what follows it in a section of a document. The last line is
+`N passed, M failed`, and tells how many were skipped, if any.
 """
 import os
 import re
