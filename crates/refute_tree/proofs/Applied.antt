@@ -1,17 +1,19 @@
 -- What a front has after a legal token.
-use Rattle.std.proofs.Common.{◌≡◌, ◌≢◌, ℕ, ◌+◌, ◌<◌, ◌≤◌, Bool, true, false, cond, List, [], ◌∷◌, length, Option, None, Some, refl, sym, ap, ◌∙◌, subst, arith, true≢false}
+use Rattle.std.proofs.Common.{◌≡◌, ◌≢◌, ℕ, ◌+◌, ◌<◌, ◌≤◌, Bool, true, false, cond, List, [], ◌∷◌, ◌++◌, length, Option, None, Some, refl, sym, ap, ◌∙◌, subst, arith, true≢false}
 use Rattle.std.specs.Prelude.{MatchOption, IfSome}
-use Rattle.std.proofs.lemmas.List.{length-reverse}
+use Rattle.std.proofs.lemmas.List.{length-reverse, length_push}
+use Rattle.decomposition.proofs.Open.{open_boxes_answer}
+use Rattle.decomposition.proofs.Rules.{after_tokens_push}
 use Rattle.decomposition.specs.declared.Token.{Token}
 use Rattle.decomposition.specs.Graph.{Graph, IsNet}
 use Rattle.decomposition.specs.Instance.{Instance}
-use Rattle.decomposition.specs.Boxes.{Slot}
+use Rattle.decomposition.specs.Boxes.{Slot, root_box}
 use Rattle.decomposition.specs.Tokens.{is_legal, after_token}
 use Rattle.refute_tree.specs.declared.one_box.OneBox.{OneBox}
 use Rattle.refute_tree.specs.declared.front.Front.TheInside.{Inside}
 use Rattle.refute_tree.specs.Choices.{Place, AreWithin, boxes_at, place_after}
 use Rattle.refute_tree.specs.OneBox.{place_of, boxes_of, IsOneBox, Comes}
-use Rattle.refute_tree.specs.Front.{Boxes, Applies}
+use Rattle.refute_tree.specs.Front.{Boxes, Applies, decision_of, AreLeft, IsOpenAnswer, SettlesFront}
 use Rattle.refute_tree.specs.Kept.{shown}
 use Rattle.refute_tree.proofs.Laws.{IsNear}
 use Rattle.refute_tree.proofs.Leading.{box-length}
@@ -71,3 +73,16 @@ applies old f new t left view after is =
 -- the boxes that are kept where there is a first one
 pub kept-boxes : (a : Inside) → a.has_first ≡ true → (shown a).boxes ≡ boxes_of a.net.now a.one
 kept-boxes a has = ap (λ (b : Bool). cond b (boxes_of a.net.now a.one) []) has
+
+-- the boxes after one token more
+pub left_more : (f new : Boxes) (t : Token) (left : List (List Slot)) → AreLeft f → after_token f.instance f.limit t f.boxes ≡ Some left → new ≡ record f { used = f.used + 1; boxes = left } → AreLeft new
+left_more f new t left before after is = subst AreLeft (sym is) (record {
+  tokens = before.tokens ++ t ∷ [];
+  count = length_push before.tokens t ∙ omega (arith, before.count);
+  left = after_tokens_push f.instance f.limit before.tokens t (root_box f.instance f.slots ∷ []) f.boxes before.left ∙ after;
+})
+
+-- the answer of an open first box settles the decision
+pub settles_open : (f : Boxes) (a : List (List ℕ × ℕ)) → AreLeft f → IsOpenAnswer f a → SettlesFront f a
+settles_open f a left open' mode valid =
+    rw open'.answer (open_boxes_answer mode f.instance (decision_of f) left.tokens open'.first open'.others valid (left.left ∙ ap Some open'.boxes) open'.open')

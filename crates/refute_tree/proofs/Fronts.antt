@@ -1,5 +1,5 @@
 -- What a front answers of its first box.
-use Rattle.std.proofs.Common.{◌≡◌, ◌≢◌, ℕ, ◌<◌, Bool, true, false, not, ◌&&◌, nat_le, nat_lt, List, [], ◌∷◌, cond, length, get_or, vec_len, refl, sym, ap, ◌∙◌, lt-ltb, ltb-true, true≢false, is_none, Option, None, subst, arith}
+use Rattle.std.proofs.Common.{◌≡◌, ◌≢◌, ℕ, ◌<◌, ◌≤◌, Bool, true, false, not, ◌&&◌, nat_le, nat_lt, List, [], ◌∷◌, cond, length, get_or, vec_len, refl, sym, ap, ◌∙◌, lt-ltb, le-ltb, ltb-true, true≢false, is_none, Option, None, subst, arith}
 use Rattle.std.proofs.lemmas.Bool.{and_parts}
 use Rattle.decomposition.specs.declared.Token.{Token}
 use Rattle.decomposition.specs.declared.Token.TheVariants.{Split, Step}
@@ -160,4 +160,16 @@ open-answer f a first edges is = go f.boxes refl where
     boxes = here;
     open' = subst (λ (boxes : List (List Slot)). IsOpen f.instance f.limit (first_of boxes)) here first.open';
     answer = is ∙ ap (λ (boxes : List (List Slot)). box_paths (first_of boxes) (length (first_of boxes))) here ∙ sym (ap (λ t. cond t (box_paths b (length b)) []) (lt-ltb 0 (edge_count f.instance.graph) edges));
+  }
+
+pub open-empty : (f : Boxes) → IsFirstOpen f → edge_count f.instance.graph ≤ 0 → IsOpenAnswer f []
+open-empty f first none = go f.boxes refl where
+  go : (boxes : List (List Slot)) → f.boxes ≡ boxes → IsOpenAnswer f []
+  go [] empty = absurd (first.some empty)
+  go (b ∷ bs) here = record {
+    first = b;
+    others = bs;
+    boxes = here;
+    open' = subst (λ (boxes : List (List Slot)). IsOpen f.instance f.limit (first_of boxes)) here first.open';
+    answer = sym (ap (λ t. cond t (box_paths b (length b)) []) (le-ltb 0 (edge_count f.instance.graph) none));
   }

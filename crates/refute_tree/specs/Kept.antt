@@ -9,7 +9,7 @@ use Rattle.decomposition.specs.Boxes.{Slot, slot_at, gap, lower_at, upper_at}
 use Rattle.decomposition.specs.Tokens.{next_edges}
 use Rattle.flow_models.specs.Problem.{instance}
 use Rattle.flow_models.specs.declared.problem.Problem.{Problem}
-use Rattle.refute_tree.specs.Front.{Boxes, closing}
+use Rattle.refute_tree.specs.Front.{Boxes, closing, AreLeft}
 use Rattle.refute_tree.specs.OneBox.{place_of, boxes_of, IsOneBox}
 use Rattle.refute_tree.specs.Sums.{HasRoom, AreBounds}
 use Rattle.refute_tree.specs.declared.sums.Sums.{Sums}
@@ -19,7 +19,8 @@ use Rattle.refute_tree.specs.declared.front.Front.TheInside.{Inside}
 abbrev pub shown : Inside → Boxes
 shown a = record {
   instance = instance a.net.now a.problem.now;
-  limit = a.limit;
+  slots = a.decision.slots;
+  limit = a.decision.limit;
   room = a.room;
   used = a.used;
   boxes = cond a.has_first (boxes_of a.net.now a.one) [];
@@ -51,10 +52,11 @@ pub record KeepsFirst (a : Inside) : Type 0 where
   pub room : HasRoom (length a.one.ranges.items) (edge_count a.net.now) a.sums
   pub sums : SumsUp (instance a.net.now a.problem.now) (place_of a.one).box a.sums
 
--- the fields go with each other; where no box is left, nothing is said of the last one
+-- the fields go with each other, and the boxes are those that legal tokens left; where no box is left, nothing is said of the last one
 pub record IsKept (a : Inside) : Type 0 where
   pub problem : IsProblemOn a.net.now a.problem.now
   pub fits : a.used ≤ a.room
   pub few : a.room < 2 ^ 32
   pub first : a.has_first ≡ true → KeepsFirst a
   pub closing : a.closing ≡ closing (shown a)
+  pub left : AreLeft (shown a)

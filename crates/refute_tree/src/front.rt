@@ -7,7 +7,7 @@ ghost use Rattle.decomposition.specs.Graph.{edge_count, is_run};
 ghost use Rattle.decomposition.specs.Instance.{greatest_hi};
 ghost use Rattle.decomposition.specs.Boxes.{gap, misses, lower_at, upper_at};
 ghost use Rattle.flow_models.specs.Problem.{instance};
-ghost use Rattle.refute_tree.specs.Front.{root_of, first_of, is_unfinished, may_branch, may_take, closing, Applies, IsFirstOpen, IsOpenAnswer, IsClosedOrNone};
+ghost use Rattle.refute_tree.specs.Front.{root_of, first_of, is_unfinished, may_branch, may_take, closing, Applies, AreLeft, IsFirstOpen, IsOpenAnswer, IsClosedOrNone, SettlesFront};
 
 use crate::answer::first_paths;
 use crate::closing::{closing_token, is_above, is_missed};
@@ -26,7 +26,7 @@ use std::marker::Model;
 pub struct Front<'a> {
     net: &'a Net,
     problem: &'a Problem,
-    limit: Option<u64>,
+    decision: Decision,
     room: u32,
     used: u32,
     has_first: bool,
@@ -68,7 +68,7 @@ impl<'a> Front<'a> {
         Ok(Front {
             net,
             problem: p,
-            limit: d.limit,
+            decision: *d,
             room: tokens,
             used: 0,
             has_first: true,
@@ -93,6 +93,7 @@ impl<'a> Front<'a> {
     pub fn used(&self) -> u32
         ensures used { result ≡ self.now.used }
         ensures room { result ≤ self.now.room }
+        ensures left { AreLeft self.now }
     {
         self.used
     }
@@ -135,10 +136,12 @@ impl<'a> Front<'a> {
         self.can_branch(slot) && self.is_unfinished(slot)
     }
 
-    /// The answer of the first box, where there is one at which no token may be taken.
+    /// The answer of the first box, where there is one at which no token may be taken. It answers the decision: paths of the net,
+    /// at most as many as there are slots and none heavier than the cap, that cover every rule with an error within the limit.
     pub fn answer(&self, alloc: Global) -> Result<Option<Answer>, AllocError>
         ensures none { IfOk result (λ a. a ≡ None → IsClosedOrNone self.now) }
         ensures found { IfOk result (λ a. IfSome a (IsOpenAnswer self.now)) }
+        ensures settles { IfOk result (λ a. IfSome a (SettlesFront self.now)) }
     {
         if !self.is_open() {
             return Ok(None);
@@ -166,7 +169,13 @@ impl<'a> Front<'a> {
         }
         self.sums
             .take(self.net, self.problem, &self.one.links, &self.one.ranges);
-        self.closing = closing_token(self.net, self.problem, self.limit, &self.one, &self.sums);
+        self.closing = closing_token(
+            self.net,
+            self.problem,
+            self.decision.limit,
+            &self.one,
+            &self.sums,
+        );
         true
     }
 
@@ -222,7 +231,7 @@ impl<'a> Front<'a> {
         ensures { result ≡ may_take self.now token }
     {
         match token {
-            Token::Gap => self.has_first && is_above(self.limit, self.gap()),
+            Token::Gap => self.has_first && is_above(self.decision.limit, self.gap()),
             Token::Miss(rule) => self.has_first
                 && rule < self.problem.rules.len()
                 && self.missed(rule),

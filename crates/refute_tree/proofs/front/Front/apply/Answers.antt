@@ -1,14 +1,14 @@
-use Rattle.std.proofs.Common.{◌≡◌, ◌≢◌, ◌+◌, Bool, true, cond, [], length, refl, sym, ap, subst, ◌∙◌, arith}
+use Rattle.std.proofs.Common.{◌≡◌, ◌≢◌, ◌+◌, Bool, true, cond, [], length, true≢false, refl, sym, ap, subst, ◌∙◌, arith}
 use Rattle.decomposition.specs.Graph.{IsNet, edge_count}
 use Rattle.decomposition.specs.Boxes.{gap}
 use Rattle.decomposition.specs.Tokens.{is_legal, after_token}
 use Rattle.flow_models.specs.Problem.{instance}
-use Rattle.refute_tree.specs.Front.{Boxes, first_of}
+use Rattle.refute_tree.specs.Front.{Boxes, first_of, closing}
 use Rattle.refute_tree.specs.Kept.{shown, KeepsFirst, Replaces}
 use Rattle.refute_tree.specs.Choices.{waiting}
 use Rattle.refute_tree.specs.Sums.{HasRoom, AreBounds}
 use Rattle.refute_tree.specs.OneBox.{place_of, box_of, boxes_of, IsBoxBegun}
-use Rattle.refute_tree.proofs.Applied.{Came, came, gone, applies, kept-boxes}
+use Rattle.refute_tree.proofs.Applied.{Came, came, gone, applies, kept-boxes, left_more}
 use Rattle.refute_tree.proofs.Fronts.{may_take-has, has-first, first-is, first-kept, closing-first}
 use Rattle.refute_tree.proofs.ReplacedBoxes.{replaces}
 use Rattle.refute_tree.proofs.front.Front.apply.Goals as goal
@@ -31,21 +31,21 @@ has : (c : After-replace_first-self-inside) → c.self.inside.has_first ≡ true
 has c = has-first c.self.inside c.args.self.now c.self.view_is (may_take-has c.args.self.now c.args.token (sym c.may_take.ensures ∙ c.if-not-may_take.false)).0
 
 -- and it is legal at that box
-legal : (c : After-replace_first-self-inside) → is_legal (instance c.self.inside.net.now c.self.inside.problem.now) c.self.inside.limit (place_of c.self.inside.one).box c.args.token ≡ true
+legal : (c : After-replace_first-self-inside) → is_legal (instance c.self.inside.net.now c.self.inside.problem.now) c.self.inside.decision.limit (place_of c.self.inside.one).box c.args.token ≡ true
 legal c =
     let a = c.self.inside in
     let f = c.args.self.now in
     let taken = may_take-has f c.args.token (sym c.may_take.ensures ∙ c.if-not-may_take.false) in
-    subst (λ b. is_legal (instance a.net.now a.problem.now) a.limit b c.args.token ≡ true) (first-is a f c.self.view_is (has c))
+    subst (λ b. is_legal (instance a.net.now a.problem.now) a.decision.limit b c.args.token ≡ true) (first-is a f c.self.view_is (has c))
     (subst (λ (x : Boxes). is_legal x.instance x.limit (first_of f.boxes) c.args.token ≡ true) (sym c.self.view_is) taken.1)
 
 -- the box that comes
 came_here : (c : After-replace_first-self-inside) → c.replace_first-self-inside.result ≡ true
-    → Came (instance c.self.inside.net.now c.self.inside.problem.now) c.self.inside.limit c.self.inside.one c.replace_first-self-inside.new.one c.args.token
+    → Came (instance c.self.inside.net.now c.self.inside.problem.now) c.self.inside.decision.limit c.self.inside.one c.replace_first-self-inside.new.one c.args.token
 came_here c is =
     let a = c.self.inside in
     let i = instance a.net.now a.problem.now in
-    came i a.limit a.one c.args.token c.self.invariant.problem.net (keeps c).one (legal c) c.replace_first-self-inside.new.one c.replace_first-self-inside.result
+    came i a.decision.limit a.one c.args.token c.self.invariant.problem.net (keeps c).one (legal c) c.replace_first-self-inside.new.one c.replace_first-self-inside.result
     (c.replace_first-self-inside.ensures i refl) is
 
 pub returns-then-not-self : goal.returns-then-not-self
@@ -54,10 +54,27 @@ returns-then-not-self c =
     let i = instance a.net.now a.problem.now in
     let b = (goal.at.returns-then-not-self c).After-replace_first-self-inside in
     let new = c.replace_first-self-inside.new.one in
-    let none = gone i a.limit a.one c.args.token c.self.invariant.problem.net (keeps b).one (legal b) new c.replace_first-self-inside.result
+    let none = gone i a.decision.limit a.one c.args.token c.self.invariant.problem.net (keeps b).one (legal b) new c.replace_first-self-inside.result
     (c.replace_first-self-inside.ensures i refl) c.if-not-self.true in
-    applies (shown a) c.args.self.now _ c.args.token [] c.self.view_is (ap (after_token i a.limit c.args.token) (kept-boxes a (has b)) ∙ none)
+    applies (shown a) c.args.self.now _ c.args.token [] c.self.view_is (ap (after_token i a.decision.limit c.args.token) (kept-boxes a (has b)) ∙ none)
     (ap (λ (b : Bool). record (shown a) { used = a.used + 1; boxes = cond b (boxes_of a.net.now new) [] }) c.if-not-self.true)
+
+pub invariant_of-self : goal.invariant_of-self
+invariant_of-self c =
+    let a = c.self.inside in
+    let i = instance a.net.now a.problem.now in
+    let b = (goal.at.invariant_of-self c).After-replace_first-self-inside in
+    let new = c.replace_first-self-inside.new.one in
+    let none = gone i a.decision.limit a.one c.args.token c.self.invariant.problem.net (keeps b).one (legal b) new c.replace_first-self-inside.result (c.replace_first-self-inside.ensures i refl) c.if-not-self.true in
+    record {
+      problem = c.self.invariant.problem;
+      fits = omega (arith, c.requires.room, ap (λ (x : Boxes). x.used) c.self.view_is, ap (λ (x : Boxes). x.room) c.self.view_is);
+      few = c.self.invariant.few;
+      first = λ some. absurd (true≢false (sym some ∙ c.if-not-self.true));
+      closing = sym (ap (λ (h : Bool). closing (record (shown a) { boxes = cond h (boxes_of a.net.now new) [] })) c.if-not-self.true);
+      left = left_more (shown a) _ c.args.token [] c.self.invariant.left (ap (after_token i a.decision.limit c.args.token) (kept-boxes a (has b)) ∙ none)
+          (ap (λ (h : Bool). record (shown a) { used = a.used + 1; boxes = cond h (boxes_of a.net.now new) [] }) c.if-not-self.true);
+    }
 
 pub take-requires-clause-room : goal.take-requires-clause-room
 take-requires-clause-room c =
@@ -103,6 +120,8 @@ invariant_of-self-2 c =
         };
       };
       closing = closing-first (shown a) c.replace_first-self-inside.result (place_of new).box (waiting a.net.now (place_of new).box (place_of new).choices) c.closing_token-self-inside.result c.if-not-self.false c.closing_token-self-inside.ensures;
+      left = left_more (shown a) _ c.args.token (boxes_of a.net.now new) c.self.invariant.left (ap (after_token i a.decision.limit c.args.token) (kept-boxes a (has b)) ∙ here.boxes)
+          (ap (λ (h : Bool). record (shown a) { used = a.used + 1; boxes = cond h (boxes_of a.net.now new) [] }) c.if-not-self.false);
     }
 
 pub returns : goal.returns
@@ -112,5 +131,5 @@ returns c =
     let b = (goal.at.returns c).After-replace_first-self-inside in
     let new = c.replace_first-self-inside.new.one in
     applies (shown a) c.args.self.now _ c.args.token (boxes_of a.net.now new) c.self.view_is
-    (ap (after_token i a.limit c.args.token) (kept-boxes a (has b)) ∙ (came_here b c.if-not-self.false).boxes)
+    (ap (after_token i a.decision.limit c.args.token) (kept-boxes a (has b)) ∙ (came_here b c.if-not-self.false).boxes)
     (ap (λ (h : Bool). record (shown a) { used = a.used + 1; boxes = cond h (boxes_of a.net.now new) [] }) c.if-not-self.false)

@@ -1,0 +1,37 @@
+use Rattle.std.proofs.Common.{◌≡◌, ◌∷◌, [], Some, length, replicate, refl, ap, sym, subst, ◌∙◌, arith}
+use Rattle.std.proofs.lemmas.List.{length-reverse}
+use Rattle.decomposition.specs.Graph.{edge_count}
+use Rattle.decomposition.specs.Boxes.{gap}
+use Rattle.flow_models.specs.Problem.{instance}
+use Rattle.refute_tree.specs.Choices.{Place, stands_for}
+use Rattle.refute_tree.specs.OneBox.{box_of}
+use Rattle.refute_tree.specs.Sums.{HasRoom, AreBounds}
+use Rattle.refute_tree.proofs.front.Front.root.Goals as goal
+
+pub invariant_of-result : goal.invariant_of-result
+invariant_of-result c =
+    let g = c.args.net.now in
+    let i = instance g c.args.p.now in
+    let one = c.in_ok-one.one in
+    let place = c.in_ok-one.ensures.place in
+    record {
+      problem = record { net = c.edges.ensures.net; ranged = c.requires.ranged; rules = c.requires.rules };
+      fits = omega arith;
+      few = omega arith;
+      first = λ _. record {
+        one = c.in_ok-one.ensures.kept;
+        cells = c.in_ok-one.ensures.room;
+        spent = omega (arith, ap (λ (p : Place). length p.choices) place, length-reverse one.choices.items);
+        room = subst (λ rs. HasRoom (length rs) (edge_count g) c.take.new.self) c.deref.ensures.value c.take.ensures.room;
+        sums = record {
+          bounds = subst (λ rs. AreBounds (box_of rs one.links.links) c.take.new.self) c.deref.ensures.value c.take.ensures.bounds;
+          gap = subst (λ rs. c.take.new.self.gap ≡ gap i (box_of rs one.links.links)) c.deref.ensures.value c.take.ensures.gap;
+        };
+      };
+      closing = c.closing_token-closing.ensures;
+      left = record {
+        tokens = [];
+        count = refl;
+        left = ap Some (sym (ap (λ (p : Place). stands_for g p.box p.choices) place ∙ ap (λ n. replicate c.args.d.now.slots (record { lo = 0; hi = n; walk = [] }) ∷ []) c.requires.cap));
+      };
+    }
