@@ -1,6 +1,6 @@
 //! The search: it applies the rule token of the first box again and again.
 
-ghost use Rattle.std.specs.Prelude.{◌≡◌, ◌≤◌, ◌<◌, [], ◌++◌, List, length, Some, None, IfOk, OnOk, OnErr, IfSome, IsTrue};
+ghost use Rattle.std.specs.Prelude.{◌≡◌, ◌≤◌, ◌<◌, [], ◌++◌, List, length, Some, None, IfOk, IfSome, IsTrue};
 ghost use Rattle.std.specs.List.{list_all};
 ghost use Rattle.decomposition.specs.declared.Mode.{Mode};
 ghost use Rattle.decomposition.specs.declared.Token.{Token};
@@ -80,15 +80,13 @@ impl<'a> Search<'a> {
         })
     }
 
-    /// Applies rule tokens until the search ends, and tells how. Once it has ended it stays so. Where memory runs out,
-    /// the tokens applied so far stay, and a later call goes on from them.
-    pub fn run(&mut self) -> Result<Outcome, AllocError>
-        ensures outcome { IfOk result (λ outcome. self.new.outcome ≡ Some outcome) }
-        ensures tokens { IfOk result (λ _. self.new.tokens ≡ rule_list self.old.instance self.old.decision self.old.nodes) }
-        ensures ends { IfOk result (EndsAs self.old.instance self.old.decision self.old.nodes) }
-        ensures shows { IfOk result (TokensShow self.new) }
-        ensures again { IfSome self.old.outcome (λ outcome. (result ≡ Ok outcome) × (self.new ≡ self.old)) }
-        ensures err { OnErr result (self.new.outcome ≡ None) }
+    /// Applies rule tokens until the search ends, and tells how. Once it has ended it stays so. It takes no memory.
+    pub fn run(&mut self) -> Outcome
+        ensures outcome { self.new.outcome ≡ Some result }
+        ensures tokens { self.new.tokens ≡ rule_list self.old.instance self.old.decision self.old.nodes }
+        ensures ends { EndsAs self.old.instance self.old.decision self.old.nodes result }
+        ensures shows { TokensShow self.new result }
+        ensures again { IfSome self.old.outcome (λ outcome. (result ≡ outcome) × (self.new ≡ self.old)) }
         ensures instance { self.new.instance ≡ self.old.instance }
         ensures decision { self.new.decision ≡ self.old.decision }
         ensures nodes { self.new.nodes ≡ self.old.nodes }
@@ -97,9 +95,9 @@ impl<'a> Search<'a> {
     {
         loop {
             if let Some(outcome) = self.outcome {
-                return Ok(outcome);
+                return outcome;
             }
-            self.advance()?;
+            self.advance();
         }
     }
 
@@ -125,21 +123,19 @@ impl<'a> Search<'a> {
     }
 
     /// Applies the rule token of the first box, or notes how the search ends.
-    fn advance(&mut self) -> Result<(), AllocError>
+    fn advance(&mut self)
         requires { self.old.outcome ≡ None }
         ensures goes_on { GoesOn self.old self.new }
-        ensures nearer { OnOk result (steps_left self.new < steps_left self.old) }
-        ensures err { OnErr result (self.new ≡ self.old) }
+        ensures nearer { steps_left self.new < steps_left self.old }
     {
         match rule_token(&self.front, self.decision.slots) {
             Some(token) if self.front.used() < self.nodes => {
-                self.front.apply(token)?;
-                self.tokens.push(token)?;
+                self.front.apply(token);
+                self.tokens.push(token).unwrap();
             }
             Some(_) => self.outcome = Some(Outcome::Spent),
             None if self.front.left() > 0 => self.outcome = Some(Outcome::Found),
             None => self.outcome = Some(Outcome::Refuted),
         }
-        Ok(())
     }
 }

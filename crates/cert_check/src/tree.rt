@@ -69,7 +69,7 @@ pub fn check_tree(
 {
     let mut front = Front::root(alloc, net, p, d, tokens.len() as u32)?;
     for (k, &token) in tokens.iter().enumerate() {
-        if !front.apply(token)? {
+        if !front.apply(token) {
             return Ok(TreeVerdict::Illegal(k));
         }
     }

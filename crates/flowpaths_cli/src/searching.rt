@@ -43,7 +43,7 @@ pub fn search_once(
 {
     prove!(problem.rules.len() <= u32::MAX);
     let mut search = Search::prepare(alloc, net, problem, decision, nodes)?;
-    match search.run()? {
+    match search.run() {
         Outcome::Found => {
             let answer = search.answer(alloc)?;
             Ok(Attempt::Found(answer.tidy(alloc)?))

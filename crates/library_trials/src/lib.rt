@@ -16,6 +16,8 @@ mod constraints;
 #[cfg(test)]
 mod fronts;
 #[cfg(test)]
+mod incidence;
+#[cfg(test)]
 mod problems;
 #[cfg(test)]
 mod readings;

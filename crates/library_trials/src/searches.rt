@@ -18,7 +18,7 @@ fn two_paths_are_refuted(rt: HostRuntime) -> Result<(), Fail> {
     };
     let mut search = Search::prepare(alloc, &net, &p, d, 20_000)?;
     for _ in 0..2 {
-        assert_eq!(rt; search.run()?, Outcome::Refuted);
+        assert_eq!(rt; search.run(), Outcome::Refuted);
         let tokens = search.tokens();
         assert!(rt; tokens.len() <= 20_000);
         let verdict = check_tree(alloc, &net, &p, &d, tokens)?;
@@ -38,7 +38,7 @@ fn three_paths_are_found(rt: HostRuntime) -> Result<(), Fail> {
     };
     let mut search = Search::prepare(alloc, &net, &p, d, 20_000)?;
     for _ in 0..2 {
-        let outcome = search.run()?;
+        let outcome = search.run();
         assert!(rt; matches!(outcome, Outcome::Found));
         let answer = search.answer(alloc)?;
         assert!(rt; answer.len() == 3);
@@ -61,7 +61,7 @@ fn one_token_is_soon_spent(rt: HostRuntime) -> Result<(), Fail> {
     };
     let mut search = Search::prepare(alloc, &net, &p, d, 1)?;
     for _ in 0..2 {
-        assert_eq!(rt; search.run()?, Outcome::Spent);
+        assert_eq!(rt; search.run(), Outcome::Spent);
         assert!(rt; search.tokens() == [Token::Step(0)].as_slice());
     }
     Ok(())

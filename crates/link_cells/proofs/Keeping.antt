@@ -44,6 +44,10 @@ live-read a s k c kept shows h read =
     subst (λ (x : Cell). IsLive (length s.lists) x.below) (sym (cell-read a k c h read))
     (live-more k (length s.lists) (cell_at a.cells.items k).below (omega (arith, cell-count a s shows)) (kept.linked k h))
 
+-- and it stands before the cell
+pub before-read : (a : Inside) (k : ℕ) (c : Cell) → IsKept a → k < vec_len a.cells → c ≡ get_or a.cells.items k c → IsLive k c.below
+before-read a k c kept h read = subst (λ (x : Cell). IsLive k x.below) (sym (cell-read a k c h read)) (kept.linked k h)
+
 -- the cells after one more: the old ones
 old-cell : (a : Inside) (c : Cell) (k : ℕ) → k < vec_len a.cells → cell_at (a.cells.items ++ c ∷ []) k ≡ cell_at a.cells.items k
 old-cell a c k h =

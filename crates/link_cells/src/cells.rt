@@ -111,6 +111,7 @@ impl Cells {
         requires some { IsSome tail }
         ensures list { (edge : ℕ) × (list_at self.now.lists tail ≡ list_at self.now.lists result ++ edge ∷ []) }
         ensures live { IsLive (length self.now.lists) result }
+        ensures before { (place : ℕ) → tail ≡ Some place → IsLive place result }
     {
         match tail.cell {
             Some(k) => self.cells[k as usize].below,

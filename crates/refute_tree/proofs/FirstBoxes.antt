@@ -1,27 +1,11 @@
--- The first box of a stack: its slots, its bounds, and the rules that it misses.
-use Rattle.std.proofs.Common.{◌≡◌, ◌≢◌, ℕ, zero, suc, ◌+◌, ◌<◌, ◌≤◌, true, false, not, ◌&&◌, nat_le, List, [], ◌∷◌, length, get_or, vec_len, add-one, refl, sym, ap, ◌∙◌, arith, inl, inr, le-leb, subst}
+-- The bounds of the slots of a box, and the rules that it misses.
+use Rattle.std.proofs.Common.{◌≡◌, ℕ, zero, suc, ◌+◌, ◌<◌, ◌≤◌, true, false, not, ◌&&◌, nat_le, cond, List, [], ◌∷◌, ◌++◌, length, get_or, vec_len, add-one, refl, sym, ap, ap₂, ◌∙◌, arith, inl, inr, le-leb, subst}
 use Rattle.std.proofs.lemmas.Bool.{cases_eq, and_from, and_right}
-use Rattle.std.proofs.lemmas.List.{get_or-map, get_or_read, length-map}
-use Rattle.decomposition.specs.Graph.{Graph}
-use Rattle.decomposition.specs.Boxes.{Slot, slot_at, upper_at, may_contain, misses_over}
-use Rattle.decomposition.specs.Reach.{IsBegun}
-use Rattle.link_cells.specs.Cells.{list_at}
-use Rattle.refute_tree.specs.Front.{first_of}
-use Rattle.refute_tree.specs.Stack.{spelled, box_of, stacked, IsBoxBegun, IsFirst}
+use Rattle.std.proofs.lemmas.List.{get_or_read, append-nil}
+use Rattle.decomposition.specs.Boxes.{Slot, slot_at, upper_at, lower_at, may_contain, misses_over}
+use Rattle.decomposition.specs.Held.{box_paths}
 use Rattle.refute_tree.specs.Sums.{AreBounds}
-use Rattle.refute_tree.specs.Kept.{HaveSlots}
 use Rattle.refute_tree.specs.declared.sums.Sums.{Sums}
-use Rattle.refute_tree.specs.declared.stack.Slot.{Slot as KeptSlot}
-use Rattle.refute_tree.specs.declared.stack.Stack.{Stack}
-
--- the slots of the first box, one by one
-pub slot-read : (lists : List (List ℕ)) (slots : List KeptSlot) (k : ℕ) (d : KeptSlot) → k < length slots → slot_at (box_of lists slots) k ≡ spelled lists (get_or slots k d)
-slot-read lists slots k d inside = get_or-map (spelled lists) slots k d (record { lo = 0; hi = 0; walk = [] }) inside
-
-pub slot-begun : (g : Graph) (lists : List (List ℕ)) (slots : List KeptSlot) (k : ℕ) (d : KeptSlot) → IsBoxBegun g (box_of lists slots) → k < length slots → IsBegun g (list_at lists (get_or slots k d).walk)
-slot-begun g lists slots k d begun inside =
-    subst (λ (s : Slot). IsBegun g s.walk) (get_or-map (spelled lists) slots k d (spelled lists d) inside)
-    (begun k (spelled lists d) (omega (arith, length-map slots (spelled lists))))
 
 -- a slot that may contain a run, and a slot that may not
 pub misses-some : (all : List (List ℕ)) (b : List Slot) (r : List ℕ) (k n : ℕ) → k < n → 1 ≤ upper_at b k → may_contain all (slot_at b k).walk r ≡ true → misses_over all b r n ≡ false
@@ -39,20 +23,25 @@ pub misses-more : (all : List (List ℕ)) (b : List Slot) (r : List ℕ) (k : �
     → misses_over all b r (k + 1) ≡ true
 misses-more all b r k before none = rw (add-one) (and_from (not (nat_le 1 (upper_at b k) && may_contain all (slot_at b k).walk r)) (misses_over all b r k) (ap not none) before)
 
-pub slots-count : (g : Graph) (s : Stack) (slots : List KeptSlot) → IsFirst g s slots → length slots ≡ length (first_of (stacked g s))
-slots-count g s slots first = sym (length-map slots (spelled s.cells.lists)) ∙ ap length first.box
-
-pub slots-walk : (g : Graph) (s : Stack) (slots : List KeptSlot) (k : ℕ) (d : KeptSlot) → IsFirst g s slots → k < length slots → (slot_at (first_of (stacked g s)) k).walk ≡ list_at s.cells.lists (get_or slots k d).walk
-slots-walk g s slots k d first inside =
-    ap (λ (b : List Slot). (slot_at b k).walk) (sym first.box) ∙ ap (λ (t : Slot). t.walk) (slot-read s.cells.lists slots k d inside)
-
--- the first box has as many slots as there is room for in the sums
-pub slots-first : (n : ℕ) (boxes : List (List Slot)) → HaveSlots n boxes → boxes ≢ [] → length (first_of boxes) ≡ n
-slots-first n [] slots some = absurd (some refl)
-slots-first n (b ∷ bs) slots some = slots 0 [] (omega arith)
-
 -- a bound that is read is that of the slot
 pub upper-read : (b : List Slot) (sums : Sums) (k u : ℕ) → length b ≡ vec_len sums.uppers → AreBounds b sums → k < length b → u ≡ get_or sums.uppers.items k u → upper_at b k ≡ u
 upper-read b sums k u room bounds inside is =
     let there : k < length sums.uppers.items = omega (arith, sums.uppers.ok.0) in
     sym (get_or_read sums.uppers.items k u there is 0 ∙ bounds.uppers k inside)
+
+pub lower-read : (b : List Slot) (sums : Sums) (k u : ℕ) → length b ≡ vec_len sums.lowers → AreBounds b sums → k < length b → u ≡ get_or sums.lowers.items k u → lower_at b k ≡ u
+lower-read b sums k u room bounds inside is =
+    let there : k < length sums.lowers.items = omega (arith, sums.lowers.ok.0) in
+    sym (get_or_read sums.lowers.items k u there is 0 ∙ bounds.lowers k inside)
+
+-- the paths of a box with those of one slot more
+pub box_paths-more : (b : List Slot) (k u : ℕ) (walk : List ℕ) → upper_at b k ≡ u → 1 ≤ u → (slot_at b k).walk ≡ walk → box_paths b (k + 1) ≡ box_paths b k ++ (walk, u) ∷ []
+box_paths-more b k u walk upper one is =
+    let next : k + 1 ≡ suc k = omega arith in
+    ap (box_paths b) next ∙ ap (λ t. box_paths b k ++ cond t (((slot_at b k).walk, upper_at b k) ∷ []) []) (le-leb 1 (upper_at b k) (omega (arith, upper, one)))
+    ∙ ap₂ (λ w n. box_paths b k ++ (w, n) ∷ []) is upper
+
+pub box_paths-none : (b : List Slot) (k : ℕ) → upper_at b k ≡ 0 → box_paths b (k + 1) ≡ box_paths b k
+box_paths-none b k upper =
+    let next : k + 1 ≡ suc k = omega arith in
+    ap (box_paths b) next ∙ ap (λ n. box_paths b k ++ cond (nat_le 1 n) (((slot_at b k).walk, upper_at b k) ∷ []) []) upper ∙ append-nil (box_paths b k)

@@ -1,20 +1,19 @@
 -- What a front answers of its first box.
-use Rattle.std.proofs.Common.{◌≡◌, ◌≢◌, ℕ, ◌<◌, Bool, true, false, not, ◌&&◌, nat_le, nat_lt, List, [], ◌∷◌, length, get_or, vec_len, refl, sym, ap, ◌∙◌, lt-ltb, ltb-true, true≢false, is_none, Option, None, subst, ◌↔◌, IsTrue}
-use Rattle.std.proofs.lemmas.Bool.{and_parts, iff_false}
+use Rattle.std.proofs.Common.{◌≡◌, ◌≢◌, ℕ, ◌<◌, ◌≤◌, Bool, true, false, not, ◌&&◌, nat_le, nat_lt, List, [], ◌∷◌, cond, length, get_or, vec_len, refl, sym, ap, ◌∙◌, lt-ltb, le-ltb, ltb-true, true≢false, is_none, Option, None, subst, arith}
+use Rattle.std.proofs.lemmas.Bool.{and_parts}
 use Rattle.decomposition.specs.declared.Token.{Token}
 use Rattle.decomposition.specs.declared.Token.TheVariants.{Split, Step}
 use Rattle.decomposition.specs.Graph.{edge_count}
 use Rattle.decomposition.specs.Boxes.{Slot, gap, slot_at, upper_at, lower_at}
 use Rattle.decomposition.specs.Tokens.{is_legal, is_finished, is_above, misses_some, can_branch}
-use Rattle.link_cells.specs.Cells.{list_at}
-use Rattle.refute_tree.specs.Front.{Boxes, first_of, is_unfinished, may_take, may_branch, closing, closing_token}
-use Rattle.refute_tree.specs.Stack.{stacked, IsFirst}
-use Rattle.refute_tree.specs.Sums.{HasRoom}
-use Rattle.refute_tree.specs.Kept.{shown, HaveSlots, IsKept, SumsUp}
+use Rattle.link_cells.specs.Links.{walk_of}
+use Rattle.refute_tree.specs.Front.{Boxes, first_of, is_unfinished, may_take, may_branch, closing, closing_token, IsFirstOpen, IsOpenAnswer}
+use Rattle.decomposition.specs.Held.{IsOpen, box_paths}
+use Rattle.refute_tree.specs.OneBox.{place_of, boxes_of}
+use Rattle.refute_tree.specs.Kept.{shown, KeepsFirst, IsKept, SumsUp}
 use Rattle.refute_tree.proofs.ClosingTokens.{closing_token-open}
-use Rattle.refute_tree.proofs.FirstBoxes.{slots-count, slots-walk, slots-first, upper-read}
-use Rattle.refute_tree.specs.declared.sums.Sums.{Sums}
-use Rattle.refute_tree.specs.declared.stack.Slot.{Slot as KeptSlot}
+use Rattle.refute_tree.proofs.FirstBoxes.{upper-read, lower-read}
+use Rattle.refute_tree.proofs.Placing.{slots_from-length, walk_at}
 use Rattle.refute_tree.specs.declared.front.Front.TheInside.{Inside}
 
 -- a token at a front with a box
@@ -89,43 +88,88 @@ pub not_flip : (a b : Bool) → a ≡ not b → b ≡ not a
 not_flip a true h = rw h refl
 not_flip a false h = rw h refl
 
--- what is_empty says of the boxes
-pub some-boxes : (a : Inside) (f : Boxes) (empty : Bool) → shown a ≡ f → (IsTrue empty ↔ (stacked a.net.now a.stack ≡ [])) → empty ≡ false → f.boxes ≢ []
-some-boxes a f empty view is no' none = iff_false is no' (ap (λ (x : Boxes). x.boxes) view ∙ none)
+-- whether a first box is kept
+pub some-boxes : (a : Inside) (f : Boxes) → shown a ≡ f → a.has_first ≡ true → f.boxes ≢ []
+some-boxes a f view has none =
+    let is : boxes_of a.net.now a.one ≡ [] = sym (ap (λ (b : Bool). cond b (boxes_of a.net.now a.one) []) has) ∙ ap (λ (x : Boxes). x.boxes) view ∙ none in
+    let no' : ⊥ = cc in
+    no'
 
-pub no-boxes : (a : Inside) (f : Boxes) (empty : Bool) → shown a ≡ f → (IsTrue empty ↔ (stacked a.net.now a.stack ≡ [])) → empty ≡ true → f.boxes ≡ []
-no-boxes a f empty view is yes' = sym (ap (λ (x : Boxes). x.boxes) view) ∙ is.0 yes'
+pub no-boxes : (a : Inside) (f : Boxes) → shown a ≡ f → a.has_first ≡ false → f.boxes ≡ []
+no-boxes a f view none = sym (ap (λ (x : Boxes). x.boxes) view) ∙ ap (λ (b : Bool). cond b (boxes_of a.net.now a.one) []) none
 
--- the sums of a front with a box
+pub has-first : (a : Inside) (f : Boxes) → shown a ≡ f → f.boxes ≢ [] → a.has_first ≡ true
+has-first a f view some = go a.has_first refl where
+  go : (b : Bool) → a.has_first ≡ b → a.has_first ≡ true
+  go true is = is
+  go false is = absurd (some (no-boxes a f view is))
+
+-- the first box is the one that is kept
+pub first-is : (a : Inside) (f : Boxes) → shown a ≡ f → a.has_first ≡ true → first_of f.boxes ≡ (place_of a.one).box
+first-is a f view has = sym (ap (λ (x : Boxes). first_of x.boxes) view) ∙ ap (λ (b : Bool). first_of (cond b (boxes_of a.net.now a.one) [])) has
+
+-- what is kept of a front with a box
+pub first-kept : (a : Inside) (f : Boxes) → shown a ≡ f → IsKept a → f.boxes ≢ [] → KeepsFirst a
+first-kept a f view kept some = kept.first (has-first a f view some)
+
 pub sums-kept : (a : Inside) (f : Boxes) → shown a ≡ f → IsKept a → f.boxes ≢ [] → SumsUp f.instance (first_of f.boxes) a.sums
 sums-kept a f view kept some =
-    subst (λ (x : Boxes). SumsUp x.instance (first_of x.boxes) a.sums) view
-    (kept.sums.first (λ none. some (sym (ap (λ (x : Boxes). x.boxes) view) ∙ none)))
+    subst (λ b. SumsUp f.instance b a.sums) (sym (first-is a f view (has-first a f view some)))
+    (subst (λ (x : Boxes). SumsUp x.instance (place_of a.one).box a.sums) view (first-kept a f view kept some).sums)
 
--- the slots kept are those of the first box
-pub first-length : (a : Inside) (f : Boxes) (slots : List KeptSlot) → shown a ≡ f → IsFirst a.net.now a.stack slots → length slots ≡ length (first_of f.boxes)
-first-length a f slots view first = slots-count a.net.now a.stack slots first ∙ ap (λ (x : Boxes). length (first_of x.boxes)) view
+-- the ranges kept are those of the first box
+pub first-length : (a : Inside) (f : Boxes) → shown a ≡ f → a.has_first ≡ true → length (first_of f.boxes) ≡ length a.one.ranges.items
+first-length a f view has = ap length (first-is a f view has) ∙ slots_from-length 0 a.one.ranges.items a.one.links.links
 
-pub walk-kept : (a : Inside) (f : Boxes) (slots : List KeptSlot) (k : ℕ) (d : KeptSlot) → shown a ≡ f → IsFirst a.net.now a.stack slots → k < length slots
-    → (slot_at (first_of f.boxes) k).walk ≡ list_at a.stack.cells.lists (get_or slots k d).walk
-walk-kept a f slots k d view first inside = subst (λ (x : Boxes). (slot_at (first_of x.boxes) k).walk ≡ list_at a.stack.cells.lists (get_or slots k d).walk) view (slots-walk a.net.now a.stack slots k d first inside)
+pub walk-kept : (a : Inside) (f : Boxes) (k : ℕ) → shown a ≡ f → a.has_first ≡ true → k < length a.one.ranges.items → (slot_at (first_of f.boxes) k).walk ≡ walk_of a.one.links.links k
+walk-kept a f k view has inside = ap (λ (b : List Slot). (slot_at b k).walk) (first-is a f view has) ∙ walk_at a.one.ranges.items a.one.links.links k inside
 
 -- a bound that is read is that of the slot
 pub upper-kept : (a : Inside) (f : Boxes) (k u : ℕ) → shown a ≡ f → IsKept a → f.boxes ≢ [] → k < length (first_of f.boxes) → u ≡ get_or a.sums.uppers.items k u → upper_at (first_of f.boxes) k ≡ u
 upper-kept a f k u view kept some inside is =
-    let slots : HaveSlots (vec_len a.sums.uppers) f.boxes = subst (λ (x : Boxes). HaveSlots (vec_len a.sums.uppers) x.boxes) view kept.sums.slots in
-    upper-read (first_of f.boxes) a.sums k u (slots-first (vec_len a.sums.uppers) f.boxes slots some) (sums-kept a f view kept some).bounds inside is
+    let keeps = first-kept a f view kept some in
+    upper-read (first_of f.boxes) a.sums k u (omega (arith, first-length a f view (has-first a f view some), keeps.room.uppers)) (sums-kept a f view kept some).bounds inside is
 
 -- what closes the first box, or there is none
-pub closing-kept : (f : Boxes) (t : Option Token) → (f.boxes ≡ [] → t ≡ None) → (f.boxes ≢ [] → t ≡ closing_token f.instance f.limit (first_of f.boxes)) → t ≡ closing f
-closing-kept f t none some = go f.boxes none some where
-  go : (boxes : List (List Slot)) → (boxes ≡ [] → t ≡ None) → (boxes ≢ [] → t ≡ closing_token f.instance f.limit (first_of boxes)) → t ≡ closing (record f { boxes = boxes })
-  go [] none' some' = none' refl
-  go (b ∷ bs) none' some' = some' (λ empty. let no' : ⊥ = cc in no')
+pub closing-first : (f : Boxes) (has : Bool) (b : List Slot) (bs : List (List Slot)) (t : Option Token) → has ≡ true → t ≡ closing_token f.instance f.limit b → t ≡ closing (record f { boxes = cond has (b ∷ bs) [] })
+closing-first f has b bs t some is = is ∙ sym (ap (λ (h : Bool). closing (record f { boxes = cond h (b ∷ bs) [] })) some)
 
 pub closing-is : (a : Inside) (f : Boxes) → shown a ≡ f → IsKept a → a.closing ≡ closing f
 closing-is a f view kept = kept.closing ∙ ap closing view
 
--- room for so many slots is room for as many as there are bounds
-pub room-own : (n edges : ℕ) (s : Sums) → HasRoom n edges s → HasRoom (vec_len s.uppers) edges s
-room-own n edges s room = record { uppers = refl; lowers = room.lowers ∙ sym room.uppers; low = room.low; high = room.high }
+pub lower-kept : (a : Inside) (f : Boxes) (k u : ℕ) → shown a ≡ f → IsKept a → f.boxes ≢ [] → k < length (first_of f.boxes) → u ≡ get_or a.sums.lowers.items k u → lower_at (first_of f.boxes) k ≡ u
+lower-kept a f k u view kept some inside is =
+    let keeps = first-kept a f view kept some in
+    lower-read (first_of f.boxes) a.sums k u (omega (arith, first-length a f view (has-first a f view some), keeps.room.lowers)) (sums-kept a f view kept some).bounds inside is
+
+-- the bounds of a slot of the first box are kept
+pub bounds-there : (a : Inside) (f : Boxes) (k : ℕ) → shown a ≡ f → IsKept a → f.boxes ≢ [] → k < length (first_of f.boxes) → (k < vec_len a.sums.lowers) × (k < vec_len a.sums.uppers)
+bounds-there a f k view kept some inside =
+    let keeps = first-kept a f view kept some in
+    let long = first-length a f view (has-first a f view some) in
+    (omega (arith, inside, long, keeps.room.lowers), omega (arith, inside, long, keeps.room.uppers))
+
+-- the paths of an open first box are its answer
+pub open-answer : (f : Boxes) (a : List (List ℕ × ℕ)) → IsFirstOpen f → 0 < edge_count f.instance.graph → a ≡ box_paths (first_of f.boxes) (length (first_of f.boxes)) → IsOpenAnswer f a
+open-answer f a first edges is = go f.boxes refl where
+  go : (boxes : List (List Slot)) → f.boxes ≡ boxes → IsOpenAnswer f a
+  go [] none = absurd (first.some none)
+  go (b ∷ bs) here = record {
+    first = b;
+    others = bs;
+    boxes = here;
+    open' = subst (λ (boxes : List (List Slot)). IsOpen f.instance f.limit (first_of boxes)) here first.open';
+    answer = is ∙ ap (λ (boxes : List (List Slot)). box_paths (first_of boxes) (length (first_of boxes))) here ∙ sym (ap (λ t. cond t (box_paths b (length b)) []) (lt-ltb 0 (edge_count f.instance.graph) edges));
+  }
+
+pub open-empty : (f : Boxes) → IsFirstOpen f → edge_count f.instance.graph ≤ 0 → IsOpenAnswer f []
+open-empty f first none = go f.boxes refl where
+  go : (boxes : List (List Slot)) → f.boxes ≡ boxes → IsOpenAnswer f []
+  go [] empty = absurd (first.some empty)
+  go (b ∷ bs) here = record {
+    first = b;
+    others = bs;
+    boxes = here;
+    open' = subst (λ (boxes : List (List Slot)). IsOpen f.instance f.limit (first_of boxes)) here first.open';
+    answer = sym (ap (λ t. cond t (box_paths b (length b)) []) (le-ltb 0 (edge_count f.instance.graph) none));
+  }

@@ -1,17 +1,16 @@
 -- The edges that may follow a walk: as a list that rises, one after the other, and by the walk's last edge.
-use Rattle.std.proofs.Common.{◌≡◌, ℕ, zero, suc, ◌+◌, ◌<◌, ◌≤◌, Bool, true, false, ◌&&◌, ◌==◌, nat_lt, eqb, List, [], ◌∷◌, ◌++◌, Option, None, Some, MatchOption, refl, sym, ap, ◌∙◌, subst, arith, inl, inr, ⊎_elim, eq-eqb, ne_eqb, ltb-true, lt-ltb, le-ltb, true≢false}
+use Rattle.std.proofs.Common.{◌≡◌, ℕ, zero, suc, ◌+◌, ◌<◌, ◌≤◌, Bool, true, false, ◌&&◌, ◌==◌, nat_lt, eqb, List, [], ◌∷◌, ◌++◌, Option, None, Some, MatchOption, refl, sym, ap, ◌∙◌, subst, arith, inl, inr, ⊎_elim, eq-eqb, ne_eqb, ltb-true, lt-ltb, le-ltb, true≢false, cond, length}
 use Rattle.std.specs.Prelude.{IsTrue, filter}
-use Rattle.std.specs.Option.{is_none}
 use Rattle.std.proofs.lemmas.Bool.{cases_Bool, cases_lt, and_from, and_left, and_right}
 use Rattle.std.proofs.lemmas.List.Elements.{filter-append, filter_agree}
-use Rattle.decomposition.specs.Graph.{Graph, edge_count, tail, head, is_source, is_sink, walk_end, below, edges_from, has_edge}
+use Rattle.decomposition.specs.Graph.{Graph, edge_count, tail, head, is_source, is_sink, walk_end, is_walk_from, below, edges_from, edges_from_sources, has_edge}
 use Rattle.decomposition.specs.Reach.{IsBegun}
 use Rattle.decomposition.specs.Tokens.{next_edges, is_finished}
 use Rattle.decomposition.proofs.Members.{any-here, any-from_filter}
-use Rattle.decomposition.proofs.Walks.{walk_end-append, walk-right, walk-cons, edges_from-only, edges_from_sources-only}
+use Rattle.decomposition.proofs.Flows.{head-no_source}
+use Rattle.decomposition.proofs.Walks.{IsStep, walk_end-append, walk-right, walk-cons, edges_from-only, edges_from_sources-only}
 use Rattle.dag_net.specs.Chain.{IsFirstOut}
-use Rattle.link_cells.specs.Cells.{list_at}
-use Rattle.refute_tree.specs.Stack.{later}
+use Rattle.refute_tree.specs.Choices.{later, later_of}
 use Rattle.refute_tree.specs.Passing.{IsFirstPassing, NonePasses}
 
 -- of the numbers below n, none passes
@@ -105,11 +104,6 @@ pub out_passes : (g : Graph) (v from : ℕ) (found : Option ℕ) → IsFirstOut 
 out_passes g v from None none = λ e low inside. ne_eqb (tail g e) v (none e low inside)
 out_passes g v from (Some d) first = (first.0, first.1, eq-eqb (tail g d) v first.2, λ e low before. ne_eqb (tail g e) v (first.3 e low before))
 
--- the list of a tail that is empty, and of one that is not
-pub list_at-empty : (lists : List (List ℕ)) (walk : Option ℕ) → is_none walk ≡ true → list_at lists walk ≡ []
-list_at-empty lists None empty = refl
-list_at-empty lists (Some k) empty = absurd (true≢false (sym empty))
-
 -- the edges that may follow a walk, by its last edge
 pub next_edges-last : (g : Graph) (before : List ℕ) (e : ℕ) → next_edges g (before ++ e ∷ []) ≡ edges_from g (head g e)
 next_edges-last g [] e = refl
@@ -128,40 +122,21 @@ pub next_inside : (g : Graph) (walk : List ℕ) (e : ℕ) → IsTrue (has_edge (
 next_inside g [] e next = (edges_from_sources-only g e next).0
 next_inside g (f ∷ walk) e next = (edges_from-only g (walk_end g (tail g f) (f ∷ walk)) e next).0
 
-pub next_leaves : (g : Graph) (walk before : List ℕ) (d e : ℕ) → walk ≡ before ++ d ∷ [] → IsTrue (has_edge (next_edges g walk) e) → tail g e ≡ head g d
-next_leaves g walk before d e is next =
-    (edges_from-only g (head g d) e (subst (λ es. has_edge es e ≡ true) (ap (next_edges g) is ∙ next_edges-last g before d) next)).1
-
 -- what the first of some edges is
 abbrev IsFirstOf : List ℕ → Option ℕ → Type 0
 IsFirstOf es found = MatchOption found (es ≡ []) (λ e. es ≡ e ∷ filter (λ f. nat_lt e f) es)
 
--- what the next of some edges after another is
-abbrev IsNextOf : List ℕ → ℕ → Option ℕ → Type 0
-IsNextOf es d found = MatchOption found (filter (λ f. nat_lt d f) es ≡ []) (λ e. filter (λ f. nat_lt d f) es ≡ e ∷ filter (λ f. nat_lt e f) es)
-
--- the first edge that may follow the empty walk, and the next one
+-- the first edge that may follow the empty walk
 pub first-at_sources : (g : Graph) (walk : List ℕ) (to : ℕ) (found : Option ℕ) → walk ≡ [] → to ≡ edge_count g → IsFirstPassing (λ e. is_source g (tail g e)) 0 to found → IsFirstOf (next_edges g walk) found
 first-at_sources g walk to found empty all first =
     let test : ℕ → Bool = λ e. is_source g (tail g e) in
     subst (λ w. IsFirstOf (next_edges g w) found) (sym empty) (first_passing test (edge_count g) found (subst (λ n. IsFirstPassing test 0 n found) all first))
 
-pub next-at_sources : (g : Graph) (walk : List ℕ) (d to : ℕ) (found : Option ℕ) → walk ≡ [] → to ≡ edge_count g → IsFirstPassing (λ e. is_source g (tail g e)) (d + 1) to found → IsNextOf (next_edges g walk) d found
-next-at_sources g walk d to found empty all next =
-    let test : ℕ → Bool = λ e. is_source g (tail g e) in
-    subst (λ w. IsNextOf (next_edges g w) d found) (sym empty) (next_passing test (edge_count g) d found (subst (λ n. IsFirstPassing test (d + 1) n found) all next))
-
--- the first edge that may follow another walk, and the next one
+-- the first edge that may follow another walk
 pub first-at_end : (g : Graph) (walk before : List ℕ) (e v : ℕ) (found : Option ℕ) → walk ≡ before ++ e ∷ [] → v ≡ head g e → IsFirstOut g v 0 found → IsFirstOf (next_edges g walk) found
 first-at_end g walk before e v found is end first =
     let edges : next_edges g walk ≡ edges_from g v = ap (next_edges g) is ∙ next_edges-last g before e ∙ ap (edges_from g) (sym end) in
     subst (λ es. IsFirstOf es found) (sym edges) (first_passing (λ e. tail g e == v) (edge_count g) found (out_passes g v 0 found first))
-
-pub next-at_end : (g : Graph) (walk before : List ℕ) (d e : ℕ) (found : Option ℕ) → walk ≡ before ++ d ∷ [] → IsTrue (has_edge (next_edges g walk) e) → IsFirstOut g (tail g e) (e + 1) found → IsNextOf (next_edges g walk) e found
-next-at_end g walk before d e found is next out =
-    let v = tail g e in
-    let edges : next_edges g walk ≡ edges_from g v = ap (next_edges g) is ∙ next_edges-last g before d ∙ ap (edges_from g) (sym (next_leaves g walk before d e is next)) in
-    subst (λ es. IsNextOf es e found) (sym edges) (next_passing (λ f. tail g f == v) (edge_count g) e found (out_passes g v (e + 1) found out))
 
 -- the next edge stands after the edge before it, and may follow the same walk
 pub later_has : (g : Graph) (walk : List ℕ) (e f : ℕ) (rest : List ℕ) → later g walk e ≡ f ∷ rest → IsTrue (has_edge (next_edges g walk) f) × (e < f)
@@ -169,3 +144,69 @@ later_has g walk e f rest is =
     let has : has_edge (later g walk e) f ≡ true = subst (λ l. has_edge l f ≡ true) (sym is) (any-here (λ y. eqb f y) f rest (eq-eqb f f refl)) in
     let parts = any-from_filter (λ x. nat_lt e x) (next_edges g walk) f has in
     (parts.0, ltb-true e f parts.1)
+
+-- ---- the later edges by an edge alone
+
+-- those of an edge that leaves a source, and of another one
+later_of-source : (g : Graph) (e : ℕ) → is_source g (tail g e) ≡ true → later_of g e ≡ filter (λ f. nat_lt e f) (edges_from_sources g)
+later_of-source g e source = ap (λ b. filter (λ f. nat_lt e f) (cond b (edges_from_sources g) (edges_from g (tail g e)))) source
+
+later_of-other : (g : Graph) (e v : ℕ) → is_source g v ≡ false → tail g e ≡ v → later_of g e ≡ filter (λ f. nat_lt e f) (edges_from g v)
+later_of-other g e v other is =
+    ap (λ u. filter (λ f. nat_lt e f) (cond (is_source g u) (edges_from_sources g) (edges_from g u))) is
+    ∙ ap (λ b. filter (λ f. nat_lt e f) (cond b (edges_from_sources g) (edges_from g v))) other
+
+-- a walk that is not empty ends at no source
+end-no_source : (g : Graph) (v e : ℕ) (es : List ℕ) → is_walk_from g v (e ∷ es) ≡ true → is_source g (walk_end g v (e ∷ es)) ≡ false
+end-no_source g v e [] walk = head-no_source g e (walk-cons g v e [] walk).inside
+end-no_source g v e (f ∷ es) walk = end-no_source g (head g e) f es (walk-cons g v e (f ∷ es) walk).rest
+
+-- the edges after one that may follow a begun walk
+pub later_is : (g : Graph) (walk : List ℕ) (e : ℕ) → IsBegun g walk → IsTrue (has_edge (next_edges g walk) e) → later g walk e ≡ later_of g e
+later_is g [] e begun next = sym (later_of-source g e (edges_from_sources-only g e next).1)
+later_is g (f ∷ walk) e begun next =
+    let v = walk_end g (tail g f) (f ∷ walk) in
+    sym (later_of-other g e v (end-no_source g (tail g f) f walk begun.1) (edges_from-only g v e next).1)
+
+-- what the next edge after another is
+abbrev IsNextOf : Graph → ℕ → Option ℕ → Type 0
+IsNextOf g d found = MatchOption found (later_of g d ≡ []) (λ f. later_of g d ≡ f ∷ later_of g f)
+
+pub next-at_source : (g : Graph) (d to : ℕ) (found : Option ℕ) → is_source g (tail g d) ≡ true → to ≡ edge_count g → IsFirstPassing (λ e. is_source g (tail g e)) (d + 1) to found → IsNextOf g d found
+next-at_source g d to found source all next = go found (subst (λ n. IsFirstPassing (λ e. is_source g (tail g e)) (d + 1) n found) all next) where
+  go : (r : Option ℕ) → IsFirstPassing (λ e. is_source g (tail g e)) (d + 1) (edge_count g) r → IsNextOf g d r
+  go None none = later_of-source g d source ∙ next_passing (λ e. is_source g (tail g e)) (edge_count g) d None none
+  go (Some f) first = later_of-source g d source ∙ next_passing (λ e. is_source g (tail g e)) (edge_count g) d (Some f) first ∙ ap (λ l. f ∷ l) (sym (later_of-source g f first.2))
+
+pub next-at_vertex : (g : Graph) (d : ℕ) (found : Option ℕ) → is_source g (tail g d) ≡ false → IsFirstOut g (tail g d) (d + 1) found → IsNextOf g d found
+next-at_vertex g d found other next = go found next where
+  test : ℕ → Bool
+  test e = tail g e == tail g d
+
+  go : (r : Option ℕ) → IsFirstOut g (tail g d) (d + 1) r → IsNextOf g d r
+  go None none = later_of-other g d (tail g d) other refl ∙ next_passing test (edge_count g) d None (out_passes g (tail g d) (d + 1) None none)
+  go (Some f) first =
+      later_of-other g d (tail g d) other refl ∙ next_passing test (edge_count g) d (Some f) (out_passes g (tail g d) (d + 1) (Some f) first)
+      ∙ ap (λ l. f ∷ l) (sym (later_of-other g f (tail g d) other first.2))
+
+-- the next edge is one of the net, and stands after the edge
+pub next_of-inside : (g : Graph) (e f : ℕ) (rest : List ℕ) → later_of g e ≡ f ∷ rest → (f < edge_count g) × (e < f)
+next_of-inside g e f rest is =
+    let has : has_edge (later_of g e) f ≡ true = subst (λ l. has_edge l f ≡ true) (sym is) (any-here (λ y. eqb f y) f rest (eq-eqb f f refl)) in
+    let parts = any-from_filter (λ x. nat_lt e x) (cond (is_source g (tail g e)) (edges_from_sources g) (edges_from g (tail g e))) f has in
+    (go (is_source g (tail g e)) parts.0, ltb-true e f parts.1)
+  where
+    go : (b : Bool) → has_edge (cond b (edges_from_sources g) (edges_from g (tail g e))) f ≡ true → f < edge_count g
+    go true has = (edges_from_sources-only g f has).0
+    go false has = (edges_from-only g (tail g e) f has).0
+
+-- so many edges are counted, from the first one up to an edge
+pub record IsCounted (g : Graph) (first edge count : ℕ) : Type 0 where
+  pub inside : edge < edge_count g
+  pub counted : count + length (later_of g edge) ≡ length (later_of g first)
+  pub few : count ≤ edge
+
+pub counted-more : (g : Graph) (first edge count next : ℕ) → IsCounted g first edge count → later_of g edge ≡ next ∷ later_of g next → IsCounted g first next (count + 1)
+counted-more g first edge count next counted is =
+    let after = next_of-inside g edge next _ is in
+    record { inside = after.0; counted = omega (arith, counted.counted, ap length is); few = omega (arith, counted.few, after.1) }

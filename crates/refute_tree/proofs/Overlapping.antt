@@ -1,5 +1,5 @@
 -- Whether a walk that is known by its tail may contain a run.
-use Rattle.std.proofs.Common.{◌⊎◌, Option, Some, None, is_none, ◌≡◌, ◌≢◌, ◌↔◌, ℕ, zero, suc, ◌+◌, ◌-◌, ◌<◌, ◌≤◌, ◌&&◌, ◌==◌, eqb, Bool, true, false, List, [], ◌∷◌, ◌++◌, length, take, drop, drop-cons, get_or, slice_index, add-one, IsTrue, true≢false, eqb-true, eq-eqb, refl, sym, ap, subst, ◌∙◌, arith, inl, inr, append_assoc}
+use Rattle.std.proofs.Common.{◌⊎◌, ◌≡◌, ◌≢◌, ◌↔◌, ℕ, zero, suc, ◌+◌, ◌-◌, ◌<◌, ◌≤◌, ◌&&◌, ◌==◌, eqb, Bool, true, false, List, [], ◌∷◌, ◌++◌, length, take, drop, drop-cons, get_or, slice_index, add-one, IsTrue, true≢false, eqb-true, eq-eqb, refl, sym, ap, subst, ◌∙◌, arith, inl, inr, append_assoc}
 use Rattle.std.specs.List.{IsDistinct}
 use Rattle.std.proofs.Math.Seq.{drop-append_seam, take-append_seam}
 use Rattle.std.proofs.lemmas.Bool.{cases_Bool, cases_lt, and_parts, and_from, and_left, and_right, both_ways}
@@ -11,7 +11,6 @@ use Rattle.decomposition.proofs.Walks.{walk-cons, walk-right, walk_end-append, w
 use Rattle.decomposition.specs.Reach.{IsBegun, Reaches}
 use Rattle.subpath_rules.specs.Follows.{agree, Overlaps, run_start, run_end}
 use Rattle.subpath_rules.proofs.Deciding.{run_start-first, may-decides}
-use Rattle.link_cells.specs.Cells.{list_at}
 use Rattle.refute_tree.specs.Misses.{IsLengthFrom, IsNowhere}
 
 -- a list whose beginning ends with an entry
@@ -122,11 +121,6 @@ begun-last g (x ∷ xs) e begun = (
 pub begun-once : (g : Graph) (walk : List ℕ) → IsNet g → IsBegun g walk → IsDistinct eqb walk × (length walk ≤ edge_count g)
 begun-once g [] net begun = (walk-distinct g net 0 [] refl, omega arith)
 begun-once g (e ∷ es) net begun = (walk-distinct g net (tail g e) (e ∷ es) begun.1, walk-length g net (tail g e) (e ∷ es) begun.1)
-
--- the list of the empty tail
-pub list_at-none : (lists : List (List ℕ)) (tail : Option ℕ) → is_none tail ≡ true → list_at lists tail ≡ []
-list_at-none lists None h = refl
-list_at-none lists (Some k) h = absurd (true≢false (sym h))
 
 -- what is found of where the walk's end leads to, and of where the run overlaps it
 pub may-ahead : (g : Graph) (walk before run : List ℕ) (e u v : ℕ) → IsNet g → IsBegun g walk → IsRun g run → walk ≡ before ++ e ∷ [] → u ≡ head g e → v ≡ tail g (slice_index run 0) → (b : Bool)

@@ -1,8 +1,7 @@
--- The boxes after a token that may be taken.
+-- What a legal token asks of the box that it replaces.
 use Rattle.std.proofs.Common.{◌≡◌, ℕ, zero, suc, ◌+◌, true, not, ◌&&◌, nat_lt, nat_le, eqb, List, [], ◌∷◌, ◌++◌, map, length, Option, sym, ap, ◌∙◌, arith, ltb-true, true≢false, length-set}
 use Rattle.std.specs.List.{list_any}
 use Rattle.std.proofs.lemmas.Bool.{and_parts}
-use Rattle.std.proofs.lemmas.List.Elements.{All-append, All-map}
 use Rattle.decomposition.specs.declared.Token.{Token}
 use Rattle.decomposition.specs.declared.Token.TheVariants.{Gap, Miss, Split, Step}
 use Rattle.decomposition.specs.Graph.{IsNet, edge_count}
@@ -10,8 +9,7 @@ use Rattle.decomposition.specs.Instance.{Instance}
 use Rattle.decomposition.specs.Boxes.{Slot, slot_at, lower_at, upper_at}
 use Rattle.decomposition.specs.Tokens.{is_legal, is_finished, can_branch, middle, next_edges, with_hi, with_lo, with_edge, boxes_after}
 use Rattle.decomposition.proofs.Keeps.{some_next}
-use Rattle.refute_tree.specs.Front.{others_of}
-use Rattle.refute_tree.specs.Kept.{HaveSlots, Replaces}
+use Rattle.refute_tree.specs.Kept.{Replaces}
 
 -- a legal token may replace a box
 pub replaces : (i : Instance) (limit : Option ℕ) (b : List Slot) (t : Token) → IsNet i.graph → is_legal i limit b t ≡ true → Replaces i.graph b t
@@ -28,23 +26,3 @@ replaces i limit b (Step k) net legal =
     let edges : nat_lt 0 (edge_count i.graph) ≡ true = (and_parts (nat_lt 0 (edge_count i.graph)) _ last.1).0 in
     let next : (e : ℕ) × (list_any (λ y. eqb e y) (next_edges i.graph (slot_at b k).walk) ≡ true) = some_next i.graph net (slot_at b k).walk (ltb-true 0 (edge_count i.graph) edges) last.0 in
     (ltb-true k (length b) parts.0, λ none. true≢false (sym next.1 ∙ ap (list_any (λ y. eqb next.0 y)) none))
-
--- one box alone
-pub slots-one : (n : ℕ) (b : List Slot) → length b ≡ n → HaveSlots n (b ∷ [])
-slots-one n b same zero d l = same
-slots-one n b same (suc j) d l = absurd (omega arith)
-
--- the boxes after a token have as many slots as those before it
-pub slots-after : (i : Instance) (n : ℕ) (b : List Slot) (t : Token) (bs : List (List Slot)) → length b ≡ n → HaveSlots n bs → HaveSlots n (boxes_after i b t ++ bs)
-slots-after i n b Gap bs long others = others
-slots-after i n b (Miss c) bs long others = others
-slots-after i n b (Split k) bs long others =
-    All-append (λ (c : List Slot). length c ≡ n) (with_hi b k (middle b k) ∷ []) (with_lo b k (middle b k + 1) ∷ bs) (slots-one n (with_hi b k (middle b k)) (length-set b k _ ∙ long))
-    (All-append (λ (c : List Slot). length c ≡ n) (with_lo b k (middle b k + 1) ∷ []) bs (slots-one n (with_lo b k (middle b k + 1)) (length-set b k _ ∙ long)) others)
-slots-after i n b (Step k) bs long others =
-    All-append (λ (c : List Slot). length c ≡ n) (map (λ e. with_edge b k e) (next_edges i.graph (slot_at b k).walk)) bs
-    (All-map (λ (c : List Slot). length c ≡ n) (λ e. with_edge b k e) (next_edges i.graph (slot_at b k).walk) (λ j d l. length-set b k _ ∙ long)) others
-
-pub slots-others : (n : ℕ) (boxes : List (List Slot)) → HaveSlots n boxes → HaveSlots n (others_of boxes)
-slots-others n [] slots = slots
-slots-others n (b ∷ bs) slots = λ j d l. slots (suc j) d (omega arith)

@@ -1,40 +1,47 @@
--- The root box alone on a stack.
-use Rattle.std.proofs.Common.{◌≡◌, ℕ, zero, suc, List, [], ◌∷◌, replicate, length, None, refl, sym, ap, ◌∙◌, subst}
-use Rattle.std.specs.Prelude.{All}
+-- The root box, to which no choice led.
+use Rattle.std.proofs.Common.{◌≡◌, ℕ, zero, suc, ◌<◌, ◌≤◌, ◌^◌, List, [], ◌∷◌, replicate, length, vec_capacity, refl, sym, ap, ◌∙◌, subst, arith}
+use Rattle.std.specs.Prelude.{All, reverse}
+use Rattle.std.proofs.lemmas.List.{length-replicate}
 use Rattle.std.proofs.lemmas.List.Elements.{All-nil, All-replicate}
-use Rattle.decomposition.specs.Graph.{Graph}
+use Rattle.decomposition.specs.Graph.{Graph, IsNet, edge_count}
+use Rattle.decomposition.specs.Boxes.{Slot}
 use Rattle.decomposition.specs.Reach.{IsBegun}
-use Rattle.link_cells.specs.Cells.{IsLive}
-use Rattle.refute_tree.specs.declared.stack.Slot.{Slot as KeptSlot}
-use Rattle.refute_tree.specs.declared.stack.Pending.{Pending}
-use Rattle.refute_tree.specs.declared.stack.Stack.{Stack}
-use Rattle.refute_tree.specs.Stack.{spelled, box_of, stacked, IsBoxBegun, IsEntry, IsStack}
-use Rattle.refute_tree.proofs.Stacking.{IsTop, stack_from, stacked-top}
+use Rattle.decomposition.specs.declared.Range.{Range}
+use Rattle.link_cells.specs.Links.{LinkList}
+use Rattle.refute_tree.specs.declared.choice.Choice.{Choice}
+use Rattle.refute_tree.specs.declared.one_box.OneBox.{OneBox}
+use Rattle.refute_tree.specs.Choices.{slot_of, links_of}
+use Rattle.refute_tree.specs.OneBox.{slots_from, box_of, place_of, IsBoxBegun, IsOneBox}
 
--- each of the same slots with the same walk
-box_of-replicate : (lists : List (List ℕ)) (n : ℕ) (s : KeptSlot) → box_of lists (replicate n s) ≡ replicate n (spelled lists s)
-box_of-replicate lists zero s = refl
-box_of-replicate lists (suc n) s = ap (λ b. spelled lists s ∷ b) (box_of-replicate lists n s)
+-- each of the same slots with the empty walk
+slots-replicate : (k n cap : ℕ) → slots_from k (replicate n (record { lo = 0; hi = cap })) [] ≡ replicate n (record { lo = 0; hi = cap; walk = [] })
+slots-replicate k zero cap = refl
+slots-replicate k (suc n) cap = ap (λ b. record { lo = 0; hi = cap; walk = [] } ∷ b) (slots-replicate (suc k) n cap)
 
--- slots with empty walks, alone on a stack
-root_top : (g : Graph) (s : Stack) (p : Pending) (n cap : ℕ) → s.pending.items ≡ p ∷ [] → p.waiting ≡ None → p.slots.items ≡ replicate n (record { lo = 0; hi = cap; walk = None }) → IsTop g s [] p
-root_top g s p n cap items alone slots =
-    let lists : List (List ℕ) = s.cells.lists in
-    let box : box_of lists p.slots.items ≡ replicate n (record { lo = 0; hi = cap; walk = [] }) = ap (box_of lists) slots ∙ box_of-replicate lists n (record { lo = 0; hi = cap; walk = None }) in
-    record {
-      items = items;
-      others = All-nil (IsEntry g lists);
-      entry = record {
-        live = subst (All (λ t. IsLive (length lists) t.walk)) (sym slots) (All-replicate (λ t. IsLive (length lists) t.walk) n (record { lo = 0; hi = cap; walk = None }) tt);
-        begun = subst (IsBoxBegun g) (sym box) (All-replicate (λ t. IsBegun g t.walk) n (record { lo = 0; hi = cap; walk = [] }) tt);
-        waits = λ w waiting. absurd (let no' : ⊥ = cc in no');
-      };
-      alone = alone;
-    }
+module _ (a : OneBox) (n cap edges room : ℕ) (ranges : a.ranges.items ≡ replicate n (record { lo = 0; hi = cap })) (links : a.links ≡ record { slots = n; edges = edges; room = room; links = [] })
+    (choices : a.choices.items ≡ []) where
+  box-is : box_of a.ranges.items a.links.links ≡ replicate n (record { lo = 0; hi = cap; walk = [] })
+  box-is = ap (λ rs. box_of rs a.links.links) ranges ∙ ap (λ (l : LinkList). box_of (replicate n (record { lo = 0; hi = cap })) l.links) links ∙ slots-replicate 0 n cap
 
-pub root_stack : (g : Graph) (s : Stack) (p : Pending) (n cap : ℕ) → s.pending.items ≡ p ∷ [] → p.waiting ≡ None → p.slots.items ≡ replicate n (record { lo = 0; hi = cap; walk = None })
-    → IsStack g s × (stacked g s ≡ replicate n (record { lo = 0; hi = cap; walk = [] }) ∷ [])
-root_stack g s p n cap items alone slots =
-    let top : IsTop g s [] p = root_top g s p n cap items alone slots in
-    let box = ap (box_of s.cells.lists) slots ∙ box_of-replicate s.cells.lists n (record { lo = 0; hi = cap; walk = None }) in
-    (stack_from g s [] p top, stacked-top g s [] p top ∙ ap (λ b. b ∷ []) box)
+  pub root_place : place_of a ≡ record { box = replicate n (record { lo = 0; hi = cap; walk = [] }); choices = [] }
+  root_place =
+      ap (λ b. record { box = b; choices = (place_of a).choices }) box-is
+      ∙ ap (λ cs. record { box = replicate n (record { lo = 0; hi = cap; walk = [] }); choices = cs }) none
+    where
+      none : (place_of a).choices ≡ []
+      none = ap (λ (cs : List Choice). reverse cs) choices
+
+  pub root_length : length a.ranges.items ≡ n
+  root_length = ap length ranges ∙ length-replicate n _
+
+  pub root_kept : (g : Graph) → IsNet g → edges ≡ edge_count g → n < 2 ^ 32 → room ≤ vec_capacity a.choices → IsOneBox g a
+  root_kept g net all few capacity = record {
+    net = net;
+    slots = ap (λ (l : LinkList). l.slots) links ∙ sym root_length;
+    edges = ap (λ (l : LinkList). l.edges) links ∙ all;
+    links = ap (λ (l : LinkList). l.links) links ∙ ap (λ (cs : List Choice). reverse (links_of (reverse cs))) (sym choices);
+    within = subst (All (λ c. slot_of c < length a.ranges.items)) (ap (λ (cs : List Choice). reverse cs) (sym choices)) (All-nil (λ c. slot_of c < length a.ranges.items));
+    begun = subst (IsBoxBegun g) (sym box-is) (All-replicate (λ s. IsBegun g s.walk) n (record { lo = 0; hi = cap; walk = [] }) tt);
+    choices = omega (arith, capacity, ap (λ (l : LinkList). l.room) links);
+    few = omega (arith, few, root_length);
+  }

@@ -1,12 +1,12 @@
 -- The bounds of a slot by those of its neighbours.
-use Rattle.std.proofs.Common.{◌^◌, ◌≡◌, ℕ, zero, suc, ◌+◌, ◌-◌, ◌<◌, ◌≤◌, min, max, List, [], ◌∷◌, length, get_or, set, slice_index, get_or-set_same, get_or-set_other, refl, sym, ◌∙◌, add-one, inl, inr, arith, Option, Some, None, is_none, true, true≢false}
+use Rattle.std.proofs.Common.{◌^◌, ◌≡◌, ℕ, zero, suc, ◌+◌, ◌-◌, ◌<◌, ◌≤◌, min, max, List, [], ◌∷◌, length, get_or, set, slice_index, get_or-set_same, get_or-set_other, refl, sym, ap, ◌∙◌, add-one, inl, inr, arith, Option, Some, None, is_none, true, true≢false}
 use Rattle.std.proofs.lemmas.Bool.{cases_eq}
-use Rattle.std.proofs.lemmas.List.{get_or-map, length-map}
 use Rattle.std.proofs.lemmas.List.Edits.{fill_by_more}
 use Rattle.decomposition.specs.Boxes.{Slot, slot_at, upper_at, lower_at}
-use Rattle.refute_tree.specs.declared.stack.Slot.{Slot as KeptSlot}
-use Rattle.link_cells.specs.Cells.{list_at}
-use Rattle.refute_tree.specs.Stack.{spelled, box_of}
+use Rattle.decomposition.specs.declared.Range.{Range}
+use Rattle.link_cells.specs.Links.{walk_of}
+use Rattle.refute_tree.specs.OneBox.{box_of}
+use Rattle.refute_tree.proofs.Placing.{get_or_any, slots_from-length, slots_from-at}
 
 -- the upper bound of the next slot
 upper_at-suc : (b : List Slot) (k : ℕ) → suc k < length b → upper_at b (suc k) ≡ min (upper_at b k) (slot_at b (suc k)).hi
@@ -27,13 +27,17 @@ lower_at-past [] k h = refl
 lower_at-past (s ∷ b) zero h = absurd (omega arith)
 lower_at-past (s ∷ b) (suc k) h = lower_at-past b k (omega arith)
 
--- the box of kept slots has as many
-pub length-box : (lists : List (List ℕ)) (slots : List KeptSlot) → length (box_of lists slots) ≡ length slots
-length-box lists slots = length-map slots (spelled lists)
+-- the box of ranges has as many slots
+pub length-box : (ranges : List Range) (links : List (ℕ × ℕ)) → length (box_of ranges links) ≡ length ranges
+length-box ranges links = slots_from-length 0 ranges links
 
--- a slot of the box of kept slots
-pub slot_at-box : (lists : List (List ℕ)) (slots : List KeptSlot) (k : ℕ) (s : KeptSlot) → k < length slots → slot_at (box_of lists slots) k ≡ spelled lists (get_or slots k s)
-slot_at-box lists slots k s h = get_or-map (spelled lists) slots k s (record { lo = 0; hi = 0; walk = [] }) h
+-- a slot of the box of ranges and links
+pub slot_at-box : (ranges : List Range) (links : List (ℕ × ℕ)) (k : ℕ) (r : Range) → k < length ranges
+    → slot_at (box_of ranges links) k ≡ record { lo = (get_or ranges k r).lo; hi = (get_or ranges k r).hi; walk = walk_of links k }
+slot_at-box ranges links k r h =
+    let same : 0 + k ≡ k = omega arith in
+    slots_from-at 0 k ranges links (get_or ranges k r) h (get_or_any ranges k r (get_or ranges k r) h)
+    ∙ ap (λ n. record { lo = (get_or ranges k r).lo; hi = (get_or ranges k r).hi; walk = walk_of links n }) same
 
 -- the upper bound of the first slot
 pub upper_at-first : (b : List Slot) → 0 < length b → (slot_at b 0).hi ≤ 2 ^ 64 - 1 → min (2 ^ 64 - 1) (slot_at b 0).hi ≡ upper_at b 0
@@ -62,8 +66,3 @@ set_before f xs n i k v next h is done j from to =
       | inl same ↦ rw same (get_or-set_same xs k v 0 h ∙ is)
       | inr other ↦ get_or-set_other xs k j v 0 other ∙ done j (omega arith) to
     ]
-
--- the list of an empty tail
-pub list_at-empty : (lists : List (List ℕ)) (tail : Option ℕ) → is_none tail ≡ true → list_at lists tail ≡ []
-list_at-empty lists None h = refl
-list_at-empty lists (Some k) h = absurd (true≢false (sym h))

@@ -39,7 +39,7 @@ reaches-by_answer g net u v w false same h =
     false_from_ne_true (reaches g u v) (λ found. true≢false (sym (h.1 (subst (λ x. Reaches g u x) (sym same) ((reaches_by_walks g u v net).0 found)))))
 
 -- what a test gives is no more than the number
-cond-le : (b : Bool) (n : ℕ) → cond b n 0 ≤ n
+pub cond-le : (b : Bool) (n : ℕ) → cond b n 0 ≤ n
 cond-le true n = omega arith
 cond-le false n = omega arith
 

@@ -4,14 +4,16 @@ use Rattle.decomposition.specs.declared.Token.{Token}
 use Rattle.decomposition.specs.declared.Token.TheVariants.{Gap, Miss}
 use Rattle.decomposition.specs.declared.Decision.{Decision}
 use Rattle.decomposition.specs.Graph.{Graph}
-use Rattle.decomposition.specs.Instance.{Instance}
+use Rattle.decomposition.specs.declared.Mode.{Mode}
+use Rattle.decomposition.specs.Instance.{Instance, IsInstance}
 use Rattle.decomposition.specs.Boxes.{Slot, slot_at, upper_at, root_box}
-use Rattle.decomposition.specs.Tokens.{can_branch, is_finished, is_legal, after_token, or_else, first_legal}
-use Rattle.decomposition.specs.Held.{IsOpen, box_answer}
+use Rattle.decomposition.specs.Tokens.{can_branch, is_finished, is_legal, after_token, boxes_left, or_else, first_legal}
+use Rattle.decomposition.specs.Held.{IsOpen, box_answer, Settles}
 
--- what a front stands for: the instance and the limit of a decision, the boxes, the tokens applied and how many there may be
+-- what a front stands for: the instance, the slots and the limit of a decision, the boxes, the tokens applied and how many there may be
 pub record Boxes : Type 0 where
   pub instance : Instance
+  pub slots : ℕ
   pub limit : Option ℕ
   pub room : ℕ
   pub used : ℕ
@@ -19,7 +21,7 @@ pub record Boxes : Type 0 where
 
 -- the root box alone, and no token applied
 abbrev pub root_of : Instance → Decision → ℕ → Boxes
-root_of i d room = record { instance = i; limit = d.limit; room = room; used = 0; boxes = root_box i d.slots ∷ [] }
+root_of i d room = record { instance = i; slots = d.slots; limit = d.limit; room = room; used = 0; boxes = root_box i d.slots ∷ [] }
 
 -- the first box; without one the box of no slots
 abbrev pub first_of : List (List Slot) → List Slot
@@ -52,6 +54,20 @@ Applies old t new done =
     MatchOption (after_token old.instance old.limit t old.boxes)
     ((done ≡ false) × (new ≡ old))
     (λ left. (done ≡ true) × (new ≡ record old { used = old.used + 1; boxes = left }))
+
+-- the decision of a front
+abbrev pub decision_of : Boxes → Decision
+decision_of f = record { slots = f.slots; limit = f.limit }
+
+-- the boxes are those that legal tokens, as many as were applied, leave of the root box of the decision
+pub record AreLeft (f : Boxes) : Type 0 where
+  pub tokens : List Token
+  pub count : length tokens ≡ f.used
+  pub left : boxes_left f.instance (decision_of f) tokens ≡ Some f.boxes
+
+-- an answer that settles the decision of a front: paths of the net, few enough, none heavier than the cap, that cover with an error within the limit
+abbrev pub SettlesFront : Boxes → List (List ℕ × ℕ) → Type 0
+SettlesFront f a = (mode : Mode) → IsInstance mode f.instance → Settles f.instance (decision_of f) a
 
 -- there is a first box, and no token may be taken at it
 pub record IsFirstOpen (f : Boxes) : Type 0 where

@@ -1,7 +1,7 @@
 pub mod Front
 pub mod Passing
-pub mod Stack
-pub mod Steps
+pub mod Choices
+pub mod OneBox
 pub mod Sums
 pub mod Kept
 pub mod Misses

@@ -39,10 +39,19 @@ AreWithin most weights = (e : ℕ) → e < length weights → slice_index weight
 abbrev pub AreLows : List Slot → ℕ → List ℕ → Type 0
 AreLows b n low = (e : ℕ) → e < length low → slice_index low e ≡ sum_below (λ k. cond (has_edge (slot_at b k).walk e) (lower_at b k) 0) n
 
--- for each edge the greatest weight that the first n slots may put on it, but for what they may put on every edge
-abbrev pub AreHighs : Graph → List Slot → ℕ → ℕ → List ℕ → Type 0
-AreHighs g b n everywhere high =
-    (e : ℕ) → e < length high → slice_index high e + everywhere ≡ sum_below (λ k. cond (may_have (paths g) (slot_at b k).walk e) (upper_at b k) 0) n
+-- the greatest weight kept for an edge: its own, and what may be on every edge
+abbrev pub high_at : Sums → ℕ → ℕ
+high_at s e = slice_index s.high.items e + s.everywhere
+
+-- for each edge the greatest weight that the first n slots may put on it
+abbrev pub AreHighs : Graph → List Slot → ℕ → Sums → Type 0
+AreHighs g b n s = (e : ℕ) → e < length s.high.items → high_at s e ≡ sum_below (λ k. cond (may_have (paths g) (slot_at b k).walk e) (upper_at b k) 0) n
+
+-- each of the weights kept is at most so much
+pub record AreSmall (most : ℕ) (s : Sums) : Type 0 where
+  pub low : AreWithin most s.low.items
+  pub high : (e : ℕ) → e < length s.high.items → high_at s e ≤ most
+  pub everywhere : s.everywhere ≤ most
 
 -- a lower and an upper weight are added for a walk of a net, and all else is the same
 pub record AddsWalk (g : Graph) (walk : List ℕ) (lower upper : ℕ) (old new : Sums) : Type 0 where
@@ -51,18 +60,17 @@ pub record AddsWalk (g : Graph) (walk : List ℕ) (lower upper : ℕ) (old new :
   pub low_room : vec_len new.low ≡ vec_len old.low
   pub high_room : vec_len new.high ≡ vec_len old.high
   pub low : AddsWhere (has_edge walk) lower old.low.items new.low.items
-  pub high : AddsWhere (may_have (paths g) walk) upper old.high.items new.high.items
+  pub high : (e : ℕ) → e < length old.high.items → high_at new e ≡ high_at old e + cond (may_have (paths g) walk e) upper 0
+  pub everywhere : new.everywhere ≤ old.everywhere + upper
 
--- the weights of the first n slots, of which so much may be on every edge and is not kept
-pub record Weighs (g : Graph) (b : List Slot) (n : ℕ) (s : Sums) (everywhere : ℕ) : Type 0 where
+-- the weights of the first n slots
+pub record Weighs (g : Graph) (b : List Slot) (n : ℕ) (s : Sums) : Type 0 where
   pub room : HasRoom (length b) (edge_count g) s
   pub bounds : AreBounds b s
   pub low : AreLows b n s.low.items
-  pub high : AreHighs g b n everywhere s.high.items
-  pub low_small : AreWithin ((2 ^ 64 - 1) * n) s.low.items
-  pub high_small : AreWithin ((2 ^ 64 - 1) * n) s.high.items
-  pub everywhere_small : everywhere ≤ (2 ^ 64 - 1) * n
+  pub high : AreHighs g b n s
+  pub small : AreSmall ((2 ^ 64 - 1) * n) s
 
--- how far the weights kept, and what may be on every edge, lie outside the range of an edge
-abbrev pub outside : Sums → List Range → ℕ → ℕ → ℕ
-outside s ranges everywhere e = max (slice_index s.low.items e - (range_at ranges e).hi) ((range_at ranges e).lo - (slice_index s.high.items e + everywhere))
+-- how far the weights kept lie outside the range of an edge
+abbrev pub outside : Sums → List Range → ℕ → ℕ
+outside s ranges e = max (slice_index s.low.items e - (range_at ranges e).hi) ((range_at ranges e).lo - high_at s e)

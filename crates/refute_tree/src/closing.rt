@@ -1,17 +1,17 @@
 //! Which token closes the first box.
 
-ghost use Rattle.std.specs.Prelude.{◌≡◌, ◌≢◌, ◌<◌, [], None, length, vec_len, IsTrue};
+ghost use Rattle.std.specs.Prelude.{◌≡◌, ◌<◌, length, vec_len, IsTrue};
 ghost use Rattle.std.specs.List.{list_all};
 ghost use Rattle.decomposition.specs.Graph.{is_run};
 ghost use Rattle.decomposition.specs.Boxes.{misses};
 ghost use Rattle.decomposition.specs.Tokens.{is_above};
 ghost use Rattle.flow_models.specs.Problem.{instance};
-ghost use Rattle.refute_tree.specs.Front.{first_of, closing_token};
-ghost use Rattle.refute_tree.specs.Stack.{stacked, IsStack};
-ghost use Rattle.refute_tree.specs.Kept.{HaveSlots, SumsUp};
+ghost use Rattle.refute_tree.specs.Front.{closing_token};
+ghost use Rattle.refute_tree.specs.OneBox.{place_of, IsOneBox};
+ghost use Rattle.refute_tree.specs.Kept.{SumsUp};
 
 use crate::misses::may_contain;
-use crate::stack::Stack;
+use crate::one_box::OneBox;
 use crate::sums::Sums;
 use dag_net::Net;
 use decomposition::Token;
@@ -27,49 +27,43 @@ pub fn is_above(limit: Option<u64>, number: u128) -> bool
     }
 }
 
-/// Whether no slot of the first box of a weight that may be positive may contain the rule.
-pub fn is_missed(net: &Net, problem: &Problem, stack: &Stack, sums: &Sums, rule: u32) -> bool
+/// Whether no slot of the box of a weight that may be positive may contain the rule.
+pub fn is_missed(net: &Net, problem: &Problem, one: &OneBox, sums: &Sums, rule: u32) -> bool
     requires rules { IsTrue (list_all (is_run net.now) problem.now.rules) }
     requires rule { rule < length problem.now.rules }
-    requires stack { IsStack net.now stack.now }
-    requires some { stacked net.now stack.now ≢ [] }
-    requires slots { HaveSlots (vec_len sums.now.uppers) (stacked net.now stack.now) }
-    requires sums { SumsUp (instance net.now problem.now) (first_of (stacked net.now stack.now)) sums.now }
-    ensures { result ≡ misses (instance net.now problem.now) (first_of (stacked net.now stack.now)) rule }
+    requires kept { IsOneBox net.now one.now }
+    requires room { vec_len sums.now.uppers ≡ length one.now.ranges.items }
+    requires sums { SumsUp (instance net.now problem.now) (place_of one.now).box sums.now }
+    ensures { result ≡ misses (instance net.now problem.now) (place_of one.now).box rule }
 {
     let run = problem.rules.run(rule);
-    let slots = stack.first();
-    for k in 0..slots.len() {
-        if sums.uppers[k] >= 1 && may_contain(net, &stack.cells, slots[k].walk, run) {
+    for k in 0..one.slots() {
+        if sums.uppers[k as usize] >= 1 && may_contain(net, &one.links, k, run) {
             return false;
         }
     }
     true
 }
 
-/// The token that closes the first box, where there is one: the gap where it is legal, else the first legal miss.
+/// The token that closes the box, where there is one: the gap where it is legal, else the first legal miss.
 pub fn closing_token(
     net: &Net,
     problem: &Problem,
     limit: Option<u64>,
-    stack: &Stack,
+    one: &OneBox,
     sums: &Sums,
 ) -> Option<Token>
     requires rules { IsTrue (list_all (is_run net.now) problem.now.rules) }
-    requires stack { IsStack net.now stack.now }
-    requires slots { HaveSlots (vec_len sums.now.uppers) (stacked net.now stack.now) }
-    requires sums { stacked net.now stack.now ≢ [] → SumsUp (instance net.now problem.now) (first_of (stacked net.now stack.now)) sums.now }
-    ensures none { stacked net.now stack.now ≡ [] → result ≡ None }
-    ensures some { stacked net.now stack.now ≢ [] → result ≡ closing_token (instance net.now problem.now) limit (first_of (stacked net.now stack.now)) }
+    requires kept { IsOneBox net.now one.now }
+    requires room { vec_len sums.now.uppers ≡ length one.now.ranges.items }
+    requires sums { SumsUp (instance net.now problem.now) (place_of one.now).box sums.now }
+    ensures { result ≡ closing_token (instance net.now problem.now) limit (place_of one.now).box }
 {
-    if stack.is_empty() {
-        return None;
-    }
     if is_above(limit, sums.gap) {
         return Some(Token::Gap);
     }
     for rule in 0..problem.rules.len() {
-        if is_missed(net, problem, stack, sums, rule) {
+        if is_missed(net, problem, one, sums, rule) {
             return Some(Token::Miss(rule));
         }
     }

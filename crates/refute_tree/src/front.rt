@@ -1,19 +1,19 @@
 //! The list of boxes of a decision, to which tokens are applied.
 
-ghost use Rattle.std.specs.Prelude.{◌≡◌, ◌≢◌, ◌<◌, ◌≤◌, [], false, nat_lt, length, None, IfOk, IfSome, OnErr, IsTrue};
+ghost use Rattle.std.specs.Prelude.{◌≡◌, ◌≢◌, ◌<◌, ◌≤◌, [], false, nat_lt, length, None, IfOk, IfSome, IsTrue};
 ghost use Rattle.std.specs.List.{list_all};
 ghost use Rattle.decomposition.specs.declared.Token.TheVariants.{Split, Step};
 ghost use Rattle.decomposition.specs.Graph.{edge_count, is_run};
 ghost use Rattle.decomposition.specs.Instance.{greatest_hi};
 ghost use Rattle.decomposition.specs.Boxes.{gap, misses, lower_at, upper_at};
 ghost use Rattle.flow_models.specs.Problem.{instance};
-ghost use Rattle.refute_tree.specs.Front.{root_of, first_of, is_unfinished, may_branch, may_take, closing, Applies, IsFirstOpen, IsOpenAnswer, IsClosedOrNone};
+ghost use Rattle.refute_tree.specs.Front.{root_of, first_of, is_unfinished, may_branch, may_take, closing, Applies, AreLeft, IsFirstOpen, IsOpenAnswer, IsClosedOrNone, SettlesFront};
 
 use crate::answer::first_paths;
 use crate::closing::{closing_token, is_above, is_missed};
 use crate::next::is_finished;
-use crate::replacing::{replace_first, sum_up};
-use crate::stack::Stack;
+use crate::one_box::OneBox;
+use crate::replacing::replace_first;
 use crate::sums::Sums;
 use dag_net::{Answer, Net};
 use decomposition::{Decision, Token};
@@ -26,10 +26,11 @@ use std::marker::Model;
 pub struct Front<'a> {
     net: &'a Net,
     problem: &'a Problem,
-    limit: Option<u64>,
+    decision: Decision,
     room: u32,
     used: u32,
-    stack: Stack,
+    has_first: bool,
+    one: OneBox,
     sums: Sums,
     closing: Option<Token>,
 }
@@ -60,17 +61,18 @@ impl<'a> Front<'a> {
         requires cap { p.now.cap ≡ greatest_hi p.now.ranges }
         ensures { IfOk result (λ front. front ≡ root_of (instance net.now p.now) d.now tokens) }
     {
-        let stack = Stack::of_root(alloc, d.slots, p.cap, tokens)?;
+        let one = OneBox::of_root(alloc, net, d.slots, p.cap, tokens)?;
         let mut sums = Sums::with_room(alloc, d.slots as usize, net.edges() as usize)?;
-        sum_up(net, p, &stack, &mut sums);
-        let closing = closing_token(net, p, d.limit, &stack, &sums);
+        sums.take(net, p, &one.links, &one.ranges);
+        let closing = closing_token(net, p, d.limit, &one, &sums);
         Ok(Front {
             net,
             problem: p,
-            limit: d.limit,
+            decision: *d,
             room: tokens,
             used: 0,
-            stack,
+            has_first: true,
+            one,
             sums,
             closing,
         })
@@ -80,13 +82,18 @@ impl<'a> Front<'a> {
     pub fn left(&self) -> usize
         ensures { result ≡ length self.now.boxes }
     {
-        self.stack.count(self.net)
+        if self.has_first {
+            self.one.count(self.net)
+        } else {
+            0
+        }
     }
 
     /// The number of tokens applied.
     pub fn used(&self) -> u32
         ensures used { result ≡ self.now.used }
         ensures room { result ≤ self.now.room }
+        ensures left { AreLeft self.now }
     {
         self.used
     }
@@ -105,7 +112,7 @@ impl<'a> Front<'a> {
         requires rule { rule < length self.now.instance.rules }
         ensures { result ≡ misses self.now.instance (first_of self.now.boxes) rule }
     {
-        is_missed(self.net, self.problem, &self.stack, &self.sums, rule)
+        is_missed(self.net, self.problem, &self.one, &self.sums, rule)
     }
 
     /// The token that closes the first box: the gap where it is legal, else the first legal miss.
@@ -129,10 +136,12 @@ impl<'a> Front<'a> {
         self.can_branch(slot) && self.is_unfinished(slot)
     }
 
-    /// The answer of the first box, where there is one at which no token may be taken.
+    /// The answer of the first box, where there is one at which no token may be taken. It answers the decision: paths of the net,
+    /// at most as many as there are slots and none heavier than the cap, that cover every rule with an error within the limit.
     pub fn answer(&self, alloc: Global) -> Result<Option<Answer>, AllocError>
         ensures none { IfOk result (λ a. a ≡ None → IsClosedOrNone self.now) }
         ensures found { IfOk result (λ a. IfSome a (IsOpenAnswer self.now)) }
+        ensures settles { IfOk result (λ a. IfSome a (SettlesFront self.now)) }
     {
         if !self.is_open() {
             return Ok(None);
@@ -140,24 +149,34 @@ impl<'a> Front<'a> {
         if self.net.edges() == 0 {
             return Ok(Some(Answer::new(alloc)));
         }
-        let answer = first_paths(alloc, self.net, &self.stack, &self.sums)?;
+        let answer = first_paths(alloc, &self.one, &self.sums)?;
         Ok(Some(answer))
     }
 
     /// Applies a token: true where it is legal, and then the boxes are those after it; false where it is not, and then nothing has changed.
-    pub fn apply(&mut self, token: Token) -> Result<bool, AllocError>
+    pub fn apply(&mut self, token: Token) -> bool
         requires room { self.old.used < self.old.room }
-        ensures ok { IfOk result (Applies self.old token self.new) }
-        ensures err { OnErr result (self.new ≡ self.old) }
+        ensures { Applies self.old token self.new result }
     {
         if !self.may_take(token) {
-            return Ok(false);
+            return false;
         }
-        replace_first(self.net, &self.sums, &mut self.stack, token)?;
-        sum_up(self.net, self.problem, &self.stack, &mut self.sums);
-        self.closing = closing_token(self.net, self.problem, self.limit, &self.stack, &self.sums);
         self.used += 1;
-        Ok(true)
+        self.has_first = replace_first(self.net, &self.sums, &mut self.one, token);
+        if !self.has_first {
+            self.closing = None;
+            return true;
+        }
+        self.sums
+            .take(self.net, self.problem, &self.one.links, &self.one.ranges);
+        self.closing = closing_token(
+            self.net,
+            self.problem,
+            self.decision.limit,
+            &self.one,
+            &self.sums,
+        );
+        true
     }
 
     /// Whether the bounds of the slot of the first box differ.
@@ -175,8 +194,7 @@ impl<'a> Front<'a> {
         requires slot { slot < length (first_of self.now.boxes) }
         ensures { result ≡ is_unfinished self.now.instance.graph (first_of self.now.boxes) slot }
     {
-        let walk = self.stack.first()[slot as usize].walk;
-        self.sums.uppers[slot as usize] >= 1 && !is_finished(self.net, &self.stack.cells, walk)
+        self.sums.uppers[slot as usize] >= 1 && !is_finished(self.net, &self.one.links, slot)
     }
 
     /// Whether there is a first box, and no token may be taken at it.
@@ -184,13 +202,13 @@ impl<'a> Front<'a> {
         ensures open { IsTrue result → IsFirstOpen self.now }
         ensures closed { result ≡ false → IsClosedOrNone self.now }
     {
-        if self.stack.is_empty() || self.closing.is_some() {
+        if !self.has_first || self.closing.is_some() {
             return false;
         }
         if self.net.edges() == 0 {
             return true;
         }
-        for slot in 0..self.stack.first().len() as u32 {
+        for slot in 0..self.one.slots() {
             if self.is_apart(slot) || self.is_unfinished(slot) {
                 return false;
             }
@@ -202,10 +220,10 @@ impl<'a> Front<'a> {
     fn can_branch(&self, slot: u32) -> bool
         ensures { result ≡ may_branch self.now slot }
     {
-        if self.stack.is_empty() || self.net.edges() == 0 {
+        if !self.has_first || self.net.edges() == 0 {
             return false;
         }
-        (slot as usize) < self.stack.first().len() && self.closing.is_none()
+        (slot as usize) < self.one.ranges.len() && self.closing.is_none()
     }
 
     /// Whether the token may be taken at the first box.
@@ -213,8 +231,8 @@ impl<'a> Front<'a> {
         ensures { result ≡ may_take self.now token }
     {
         match token {
-            Token::Gap => !self.stack.is_empty() && is_above(self.limit, self.gap()),
-            Token::Miss(rule) => !self.stack.is_empty()
+            Token::Gap => self.has_first && is_above(self.decision.limit, self.gap()),
+            Token::Miss(rule) => self.has_first
                 && rule < self.problem.rules.len()
                 && self.missed(rule),
             Token::Split(slot) => self.can_split(slot),

@@ -5,10 +5,11 @@ pub use decomposition::{Decision, Token};
 pub use front::Front;
 
 mod answer;
+mod choice;
 mod closing;
 mod front;
 mod misses;
 mod next;
+mod one_box;
 mod replacing;
-mod stack;
 mod sums;

@@ -1,15 +1,15 @@
 //! The edges that may follow a walk, one after the other.
 
-ghost use Rattle.std.specs.Prelude.{◌≡◌, ◌≤◌, [], ◌∷◌, length, MatchOption, IsTrue};
-ghost use Rattle.decomposition.specs.Graph.{edge_count, tail, is_source, has_edge};
+ghost use Rattle.std.specs.Prelude.{◌≡◌, ◌≤◌, ◌<◌, [], ◌∷◌, length, MatchOption};
+ghost use Rattle.decomposition.specs.Graph.{edge_count, tail, is_source};
 ghost use Rattle.decomposition.specs.Reach.{IsBegun};
 ghost use Rattle.decomposition.specs.Tokens.{next_edges, is_finished};
-ghost use Rattle.link_cells.specs.Cells.{list_at, IsLive};
-ghost use Rattle.refute_tree.specs.Stack.{later};
+ghost use Rattle.link_cells.specs.Links.{walk_of};
+ghost use Rattle.refute_tree.specs.Choices.{later, later_of};
 ghost use Rattle.refute_tree.specs.Passing.{IsFirstPassing};
 
 use dag_net::Net;
-use link_cells::{Cells, Tail};
+use link_cells::Incidence;
 
 /// The first edge from number `from` on, of those before `to`, that leaves a source.
 fn source_edge(net: &Net, from: u32, to: u32) -> Option<u32>
@@ -19,44 +19,57 @@ fn source_edge(net: &Net, from: u32, to: u32) -> Option<u32>
     (from..to).find(|&e| net.is_source(net.tail(e)))
 }
 
-/// The first edge that may follow a walk.
-pub fn first_next(net: &Net, cells: &Cells, walk: Tail) -> Option<u32>
-    requires live { IsLive (length cells.now.lists) walk }
-    requires begun { IsBegun net.now (list_at cells.now.lists walk) }
+/// The first edge that may follow the walk of the slot.
+pub fn first_next(net: &Net, links: &Incidence, slot: u32) -> Option<u32>
+    requires slot { slot < links.now.slots }
+    requires begun { IsBegun net.now (walk_of links.now.links slot) }
     ensures { MatchOption result
-        (next_edges net.now (list_at cells.now.lists walk) ≡ [])
-        (λ e. next_edges net.now (list_at cells.now.lists walk) ≡ e ∷ later net.now (list_at cells.now.lists walk) e) }
+        (next_edges net.now (walk_of links.now.links slot) ≡ [])
+        (λ e. next_edges net.now (walk_of links.now.links slot) ≡ e ∷ later net.now (walk_of links.now.links slot) e) }
 {
-    if walk.is_empty() {
-        source_edge(net, 0, net.edges())
-    } else {
-        net.first_out(net.head(cells.edge(walk)))
+    match links.last_of(slot) {
+        Some(last) => net.first_out(net.head(last)),
+        None => source_edge(net, 0, net.edges()),
     }
 }
 
-/// The next edge after `e` that may follow the same walk.
-pub fn next_after(net: &Net, cells: &Cells, walk: Tail, e: u32) -> Option<u32>
-    requires live { IsLive (length cells.now.lists) walk }
-    requires begun { IsBegun net.now (list_at cells.now.lists walk) }
-    requires edge { IsTrue (has_edge (next_edges net.now (list_at cells.now.lists walk)) e) }
-    ensures { MatchOption result
-        (later net.now (list_at cells.now.lists walk) e ≡ [])
-        (λ f. later net.now (list_at cells.now.lists walk) e ≡ f ∷ later net.now (list_at cells.now.lists walk) f) }
+/// The next edge after `edge` that may follow the walks that `edge` may follow.
+pub fn next_after(net: &Net, edge: u32) -> Option<u32>
+    requires { edge < edge_count net.now }
+    ensures { MatchOption result (later_of net.now edge ≡ []) (λ f. later_of net.now edge ≡ f ∷ later_of net.now f) }
 {
-    if walk.is_empty() {
+    if net.is_source(net.tail(edge)) {
         let edges = net.edges();
-        source_edge(net, e + 1, edges)
+        source_edge(net, edge + 1, edges)
     } else {
-        prove!(net.tail(e) == net.head(cells.edge(walk)));
-        net.next_out(e)
+        net.next_out(edge)
     }
 }
 
-/// Whether a walk has reached a sink.
-pub fn is_finished(net: &Net, cells: &Cells, walk: Tail) -> bool
-    requires live { IsLive (length cells.now.lists) walk }
-    requires begun { IsBegun net.now (list_at cells.now.lists walk) }
-    ensures { result ≡ is_finished net.now (list_at cells.now.lists walk) }
+/// How many edges after `edge` may follow the walks that `edge` may follow.
+pub fn count_after(net: &Net, edge: u32) -> usize
+    requires { edge < edge_count net.now }
+    ensures count { result ≡ length (later_of net.now edge) }
+    ensures few { result ≤ 4096 }
 {
-    !walk.is_empty() && net.is_sink(net.head(cells.edge(walk)))
+    prove!(net.edges() <= 4096);
+    let mut count = 0;
+    let mut at = edge;
+    while let Some(next) = next_after(net, at) {
+        count += 1;
+        at = next;
+    }
+    count
+}
+
+/// Whether the walk of the slot has reached a sink.
+pub fn is_finished(net: &Net, links: &Incidence, slot: u32) -> bool
+    requires slot { slot < links.now.slots }
+    requires begun { IsBegun net.now (walk_of links.now.links slot) }
+    ensures { result ≡ is_finished net.now (walk_of links.now.links slot) }
+{
+    match links.last_of(slot) {
+        Some(last) => net.is_sink(net.head(last)),
+        None => false,
+    }
 }

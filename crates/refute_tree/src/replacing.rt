@@ -1,21 +1,17 @@
-//! The boxes after a token in place of the first one, and the sums of what is then the first.
+//! The boxes after a token in place of the first one.
 
-ghost use Rattle.std.specs.Prelude.{◌≡◌, ◌≢◌, ◌+◌, ◌/◌, ◌<◌, ◌≤◌, ◌^◌, ◌++◌, [], length, vec_len, OnOk, OnErr};
-ghost use Rattle.decomposition.specs.Graph.{edge_count};
+ghost use Rattle.std.specs.Prelude.{◌≡◌, ◌+◌, ◌/◌, ◌<◌, ◌^◌, length, vec_len, false, true, MatchOption};
 ghost use Rattle.decomposition.specs.Instance.{Instance};
-ghost use Rattle.decomposition.specs.Tokens.{boxes_after};
-ghost use Rattle.flow_models.specs.Problem.{instance};
-ghost use Rattle.refute_tree.specs.Front.{first_of, others_of};
-ghost use Rattle.refute_tree.specs.Stack.{stacked, IsStack, GrowsByOne, Stays};
-ghost use Rattle.refute_tree.specs.Sums.{HasRoom, AreBounds};
-ghost use Rattle.refute_tree.specs.Kept.{HaveSlots, Replaces, SumsUp};
+ghost use Rattle.refute_tree.specs.Kept.{Replaces};
+ghost use Rattle.refute_tree.specs.Choices.{place_after};
+ghost use Rattle.refute_tree.specs.OneBox.{place_of, IsOneBox, Comes};
+ghost use Rattle.refute_tree.specs.Sums.{AreBounds};
 
-use crate::stack::Stack;
+use crate::next::first_next;
+use crate::one_box::OneBox;
 use crate::sums::Sums;
 use dag_net::Net;
 use decomposition::Token;
-use flow_models::Problem;
-use std::alloc::AllocError;
 
 /// The middle of two bounds, rounded down.
 fn middle(lower: u64, upper: u64) -> u64
@@ -26,47 +22,28 @@ fn middle(lower: u64, upper: u64) -> u64
     lower + (upper - lower) / 2
 }
 
-/// Puts the boxes after a token in place of the first box.
-pub fn replace_first(
-    net: &Net,
-    sums: &Sums,
-    stack: &mut Stack,
-    token: Token,
-) -> Result<(), AllocError>
-    requires stack { IsStack net.now stack.old }
-    requires some { stacked net.now stack.old ≢ [] }
-    requires fits { Replaces net.now (first_of (stacked net.now stack.old)) token }
-    requires slots { vec_len sums.now.lowers ≡ length (first_of (stacked net.now stack.old)) }
-    requires bounds { AreBounds (first_of (stacked net.now stack.old)) sums.now }
-    requires room { length stack.old.cells.lists < stack.old.cells.room }
-    ensures stack { IsStack net.now stack.new }
-    ensures boxes { OnOk result ((i : Instance) → i.graph ≡ net.now → stacked net.now stack.new ≡
-        boxes_after i (first_of (stacked net.now stack.old)) token ++ others_of (stacked net.now stack.old)) }
-    ensures cells { GrowsByOne stack.old.cells stack.new.cells }
-    ensures entries { vec_len stack.new.pending ≤ vec_len stack.old.pending + 1 }
-    ensures err { OnErr result (Stays stack.old stack.new) }
+/// Puts the boxes after a token in place of the first; false where no box is left.
+pub fn replace_first(net: &Net, sums: &Sums, one: &mut OneBox, token: Token) -> bool
+    requires kept { IsOneBox net.now one.old }
+    requires fits { Replaces net.now (place_of one.old).box token }
+    requires lowers { vec_len sums.now.lowers ≡ length one.old.ranges.items }
+    requires uppers { vec_len sums.now.uppers ≡ length one.old.ranges.items }
+    requires bounds { AreBounds (place_of one.old).box sums.now }
+    requires room { length one.old.choices.items < one.old.links.room }
+    ensures { (i : Instance) → i.graph ≡ net.now →
+        MatchOption (place_after i (place_of one.old) token) (result ≡ false) (λ p. (result ≡ true) × Comes net.now one.old one.new p) }
 {
     match token {
-        Token::Gap | Token::Miss(_) => stack.close(net),
+        Token::Gap | Token::Miss(_) => one.undo(net),
         Token::Split(slot) => {
             let k = slot as usize;
-            stack.split(net, slot, middle(sums.lowers[k], sums.uppers[k]))
+            one.split(net, slot, middle(sums.lowers[k], sums.uppers[k]));
+            true
         }
-        Token::Step(slot) => stack.step(net, slot),
-    }
-}
-
-/// Takes the sums of the first box, if there is one.
-pub fn sum_up(net: &Net, problem: &Problem, stack: &Stack, sums: &mut Sums)
-    requires ranged { length problem.now.ranges ≡ edge_count net.now }
-    requires stack { IsStack net.now stack.now }
-    requires room { HasRoom (vec_len sums.old.uppers) (edge_count net.now) sums.old }
-    requires few { vec_len sums.old.uppers < 2 ^ 32 }
-    requires slots { HaveSlots (vec_len sums.old.uppers) (stacked net.now stack.now) }
-    ensures room { HasRoom (vec_len sums.old.uppers) (edge_count net.now) sums.new }
-    ensures sums { stacked net.now stack.now ≢ [] → SumsUp (instance net.now problem.now) (first_of (stacked net.now stack.now)) sums.new }
-{
-    if !stack.is_empty() {
-        sums.take(net, problem, &stack.cells, stack.first());
+        Token::Step(slot) => {
+            let edge = first_next(net, &one.links, slot).unwrap();
+            one.step(net, slot, edge);
+            true
+        }
     }
 }

@@ -8,15 +8,15 @@ use Rattle.cert_check.proofs.tree.check_tree.Goals as goal
 pub loop-k-init : goal.loop-k-init
 loop-k-init c = checked_none (instance c.args.net.now c.args.p.now) c.args.d.now c.args.tokens.now c.in_ok-front.front c.in_ok-front.ensures
 
-pub returns-then-not-branch-clause-exact : goal.returns-then-not-branch-clause-exact
-returns-then-not-branch-clause-exact c =
+pub returns-then-not-apply-clause-exact : goal.returns-then-not-apply-clause-exact
+returns-then-not-apply-clause-exact c =
     checked_illegal (instance c.args.net.now c.args.p.now) c.args.d.now c.args.tokens.now c.loop-k.k c.loop-k.front _ c.loop-k.invariant c.loop-k-test.true
-    (refused c.loop-k.front _ c.apply.new.self c.in_ok-apply.field-0 c.in_ok-apply.ensures.ok c.if-not-branch.true)
+    (refused c.loop-k.front _ c.apply.new.self c.apply.result c.apply.ensures c.if-not-apply.true)
 
 pub loop-k-preserved : goal.loop-k-preserved
 loop-k-preserved c =
     checked_more (instance c.args.net.now c.args.p.now) c.args.d.now c.args.tokens.now c.loop-k.k c.loop-k.front c.apply.new.self _ c.loop-k.invariant c.loop-k-test.true
-    (applied c.loop-k.front _ c.apply.new.self c.in_ok-apply.field-0 c.in_ok-apply.ensures.ok c.if-not-branch.false)
+    (applied c.loop-k.front _ c.apply.new.self c.apply.result c.apply.ensures c.if-not-apply.false)
 
 pub returns-clause-exact : goal.returns-clause-exact
 returns-clause-exact c =

@@ -32,9 +32,9 @@ returns-in-Refuted c =
     let i = instance c.args.net.now c.args.problem.now in
     let trail = c.in_ok-trail_of-in-Refuted.field-0 in
     let start = c.in_ok-search.ensures in
-    let told = subst (λ (s : SearchState). EndsAs s.instance s.decision s.nodes c.in_ok-run.field-0) start c.in_ok-run.ensures.ends in
+    let told = subst (λ (s : SearchState). EndsAs s.instance s.decision s.nodes c.run.result) start c.run.ensures.ends in
     let ends = subst (EndsAs i c.args.decision c.args.nodes) c.in-Refuted.is told in
-    let tokens = subst (λ (s : SearchState). c.run.new.self.tokens ≡ rule_list s.instance s.decision s.nodes) start c.in_ok-run.ensures.tokens in
+    let tokens = subst (λ (s : SearchState). c.run.new.self.tokens ≡ rule_list s.instance s.decision s.nodes) start c.run.ensures.tokens in
     let is = c.in_ok-trail_of-in-Refuted.ensures.tokens ∙ (c.tokens.ensures.tokens ∙ tokens) in
     refuted_by c.args.nodes i c.args.decision trail c.in_ok-trail_of-in-Refuted.ensures.decision (omega (arith, c.requires.few)) c.requires.small (omega arith) (omega (arith, c.len.ensures))
     (omega (arith, ap length c.in_ok-trail_of-in-Refuted.ensures.tokens, c.tokens.ensures.most, c.run.ensures.nodes, ap (λ (s : SearchState). s.nodes) start)) is ends
@@ -44,9 +44,9 @@ returns c =
     let i = instance c.args.net.now c.args.problem.now in
     let trail = c.in_ok-trail_of-in-Spent.field-0 in
     let start = c.in_ok-search.ensures in
-    let told = subst (λ (s : SearchState). EndsAs s.instance s.decision s.nodes c.in_ok-run.field-0) start c.in_ok-run.ensures.ends in
+    let told = subst (λ (s : SearchState). EndsAs s.instance s.decision s.nodes c.run.result) start c.run.ensures.ends in
     let ends = subst (EndsAs i c.args.decision c.args.nodes) c.in-Spent.is told in
-    let tokens = subst (λ (s : SearchState). c.run.new.self.tokens ≡ rule_list s.instance s.decision s.nodes) start c.in_ok-run.ensures.tokens in
+    let tokens = subst (λ (s : SearchState). c.run.new.self.tokens ≡ rule_list s.instance s.decision s.nodes) start c.run.ensures.tokens in
     let is = c.in_ok-trail_of-in-Spent.ensures.tokens ∙ (c.tokens-in-Spent.ensures.tokens ∙ tokens) in
     spent_by c.args.nodes i c.args.decision trail c.in_ok-trail_of-in-Spent.ensures.decision (omega (arith, c.requires.few)) c.requires.small (omega arith) (omega (arith, c.len.ensures))
     (omega (arith, ap length c.in_ok-trail_of-in-Spent.ensures.tokens, c.tokens-in-Spent.ensures.most, c.run.ensures.nodes, ap (λ (s : SearchState). s.nodes) start)) is ends

@@ -1,10 +1,9 @@
 use Rattle.std.proofs.Common.{◌≡◌, true}
 use Rattle.decomposition.specs.Graph.{paths}
 use Rattle.decomposition.specs.Boxes.{misses_over}
-use Rattle.refute_tree.specs.Front.{first_of}
-use Rattle.refute_tree.specs.Stack.{stacked}
+use Rattle.refute_tree.specs.OneBox.{place_of}
 use Rattle.refute_tree.proofs.closing.is_missed.Given as goal
 
 -- no slot so far of a weight that may be positive may contain the run
 abbrev pub invariant-loop-k : goal.invariant-loop-k
-invariant-loop-k l = misses_over (paths l.net) (first_of (stacked l.net l.stack)) l.run l.k ≡ true
+invariant-loop-k l = misses_over (paths l.net) (place_of l.one).box l.run l.k ≡ true

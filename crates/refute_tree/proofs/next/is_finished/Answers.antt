@@ -6,9 +6,12 @@ use Rattle.refute_tree.proofs.NextEdges.{last_inside, is_finished-last}
 use Rattle.refute_tree.proofs.next.is_finished.Goals as goal
 
 pub head-requires : goal.head-requires
-head-requires c = last_inside c.args.net.now c.edge.ensures.0 c.edge.result (subst (IsBegun c.args.net.now) c.edge.ensures.1 c.requires.begun)
+head-requires c = last_inside c.args.net.now c.in-Some.ensures.0 c.in-Some.last (subst (IsBegun c.args.net.now) c.in-Some.ensures.1 c.requires.begun)
 
-pub returns-then-not-is_empty : goal.returns-then-not-is_empty
-returns-then-not-is_empty c =
+pub returns-in-Some : goal.returns-in-Some
+returns-in-Some c =
     let g = c.args.net.now in
-    c.is_sink.ensures ∙ ap (is_sink g) c.head.ensures.head ∙ sym (is_finished-last g c.edge.ensures.0 c.edge.result) ∙ ap (is_finished g) (sym c.edge.ensures.1)
+    c.is_sink.ensures ∙ ap (is_sink g) c.head.ensures.head ∙ sym (is_finished-last g c.in-Some.ensures.0 c.in-Some.last) ∙ ap (is_finished g) (sym c.in-Some.ensures.1)
+
+pub returns-in-None : goal.returns-in-None
+returns-in-None c = ap (is_finished c.args.net.now) (sym c.in-None.ensures)

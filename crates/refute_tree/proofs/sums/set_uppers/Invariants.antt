@@ -1,12 +1,12 @@
 use Rattle.std.proofs.Common.{◌-◌, ◌^◌, ◌≡◌, ◌<◌, ◌≤◌, ℕ, min, List, length, slice_index}
 use Rattle.decomposition.specs.Boxes.{slot_at, upper_at}
-use Rattle.refute_tree.specs.Stack.{box_of}
+use Rattle.refute_tree.specs.OneBox.{box_of}
 use Rattle.refute_tree.proofs.sums.set_uppers.Given as goal
 
 -- the least hi so far gives the next upper bound
 abbrev pub invariant-loop-k : goal.invariant-loop-k
 invariant-loop-k l = record {
-  least : (lists : List (List ℕ)) → l.k < length l.slots → (slot_at (box_of lists l.slots) l.k).hi ≤ 2 ^ 64 - 1
-      → min l.least (slot_at (box_of lists l.slots) l.k).hi ≡ upper_at (box_of lists l.slots) l.k;
-  done : (lists : List (List ℕ)) (j : ℕ) → j < l.k → slice_index l.uppers j ≡ upper_at (box_of lists l.slots) j;
+  least : (links : List (ℕ × ℕ)) → l.k < length l.ranges → (slot_at (box_of l.ranges links) l.k).hi ≤ 2 ^ 64 - 1
+      → min l.least (slot_at (box_of l.ranges links) l.k).hi ≡ upper_at (box_of l.ranges links) l.k;
+  done : (links : List (ℕ × ℕ)) (j : ℕ) → j < l.k → slice_index l.uppers j ≡ upper_at (box_of l.ranges links) j;
 }

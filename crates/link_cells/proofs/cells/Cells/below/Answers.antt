@@ -1,5 +1,6 @@
-use Rattle.std.proofs.Common.{◌<◌, sym, ◌∙◌, vec_len}
-use Rattle.link_cells.proofs.Keeping.{in_use, list-read, live-read}
+use Rattle.std.proofs.Common.{◌≡◌, ◌<◌, Some, sym, ◌∙◌, subst, vec_len}
+use Rattle.link_cells.proofs.Keeping.{in_use, list-read, live-read, before-read}
+use Rattle.link_cells.specs.Cells.{IsLive}
 use Rattle.link_cells.proofs.cells.Cells.below.Goals as goal
 use Rattle.link_cells.proofs.cells.Cells.below.Goals.{In-Some}
 
@@ -20,3 +21,10 @@ pub returns-clause-live : goal.returns-clause-live
 returns-clause-live c =
     let b = (goal.at.returns-clause-live c).In-Some in
     live-read c.self.inside c.args.self.now c.in-Some.k c.index.result.now c.self.invariant c.self.view_is (there b) c.index.ensures
+
+pub returns-clause-before : goal.returns-clause-before
+returns-clause-before c = λ place is.
+    let b = (goal.at.returns-clause-before c).In-Some in
+    let both : Some c.in-Some.k ≡ Some place = sym (sym c.tail.view_is ∙ c.in-Some.is) ∙ is in
+    let same : c.in-Some.k ≡ place = cc in
+    subst (λ n. IsLive n c.index.result.now.below) same (before-read c.self.inside c.in-Some.k c.index.result.now c.self.invariant (there b) c.index.ensures)

@@ -4,4 +4,4 @@ use Rattle.refute_tree.specs.Sums.{outside}
 use Rattle.refute_tree.proofs.sums.Sums.total_gap.Given as goal
 
 abbrev pub invariant-loop-e : goal.invariant-loop-e
-invariant-loop-e l = (l.gap ≡ sum_below (outside l.self l.ranges l.everywhere) l.e) × (l.gap ≤ 2 ^ 96 * l.e)
+invariant-loop-e l = (l.gap ≡ sum_below (outside l.self l.ranges) l.e) × (l.gap ≤ 2 ^ 96 * l.e)

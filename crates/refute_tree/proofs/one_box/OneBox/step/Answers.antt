@@ -1,0 +1,29 @@
+use Rattle.std.proofs.Common.{◌≡◌, ◌≤◌, [], ◌∷◌, ◌++◌, ap, refl, arith, rules}
+use Rattle.std.specs.Prelude.{reverse, vec_capacity}
+use Rattle.std.proofs.lemmas.List.{length-reverse}
+use Rattle.refute_tree.proofs.NextEdges.{next_inside}
+use Rattle.refute_tree.specs.declared.choice.Choice.TheVariants.{Step}
+use Rattle.refute_tree.specs.declared.one_box.OneBox.{OneBox}
+use Rattle.link_cells.specs.Links.{LinkList}
+use Rattle.refute_tree.proofs.Leading.{step_box, step_led, link_room, comes}
+use Rattle.refute_tree.proofs.one_box.OneBox.step.Goals as goal
+
+pub link-requires-clause-edge : goal.link-requires-clause-edge
+link-requires-clause-edge c = omega (arith, next_inside c.args.net.now _ c.args.edge c.requires.follows, c.requires.kept.edges)
+
+pub unwrap-requires : goal.unwrap-requires
+unwrap-requires c =
+    let few = link_room c.args.net.now _ c.args.self.now c.requires.kept (omega (arith, c.requires.room, length-reverse c.args.self.now.choices.items)) in
+    search (few, rules)
+
+pub returns : goal.returns
+returns c =
+    let old : OneBox = c.args.self.now in
+    let new : OneBox = record { ranges = old.ranges; links = c.link.new.self; choices = c.push.new.self } in
+    let links : c.link.new.self ≡ record old.links { links = old.links.links ++ (c.args.slot, c.args.edge) ∷ [] } = search rules in
+    let items : c.push.new.self.items ≡ old.choices.items ++ Step c.args.slot c.args.edge ∷ [] = search rules in
+    let room : old.links.room ≤ vec_capacity c.push.new.self = search rules in
+    comes c.args.net.now old new old.choices.items (Step c.args.slot c.args.edge) _ items
+    (step_led c.args.net.now (reverse old.choices.items) old new c.args.slot c.args.edge c.requires.kept c.requires.slot c.requires.follows refl links room)
+    (step_box c.args.net.now (reverse old.choices.items) old new c.args.slot c.args.edge c.requires.kept c.requires.slot c.requires.follows refl links room)
+    (ap (λ (l : LinkList). l.room) links)
