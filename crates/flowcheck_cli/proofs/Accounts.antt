@@ -13,7 +13,7 @@ use Rattle.flow_io.specs.declared.status.Status.TheVariants.{Clean, Partial, Ref
 use Rattle.graph_text.specs.Blocks.{blocks, complete}
 use Rattle.program_runs.proofs.FirstBlocks.{first-at}
 use Rattle.program_runs.proofs.HandedBlocks.{blocks-seen}
-use Rattle.program_runs.proofs.Inputs.{left-at, taken-at, where_took, where_none}
+use Rattle.program_runs.proofs.Inputs.{left-at, taken-at, takes-first_at, where_took, where_none}
 use Rattle.program_runs.proofs.Writing.{where_written}
 use Rattle.flowcheck_cli.specs.Checking.{WroteFirst, EndsRight, BeginsRight}
 use Rattle.flowcheck_cli.specs.Inputs.{Seen, WhereSeen, left_of, taken, bytes_without, TakesFirst, IsNoOther}
@@ -23,7 +23,6 @@ use Rattle.flowcheck_cli.specs.Inputs.{IsAtEnd}
 use Rattle.flowcheck_cli.specs.Words.{InputNames, names_of}
 use Rattle.flowcheck_cli.specs.declared.stop.Stop.{Stop}
 use Rattle.flowcheck_cli.specs.declared.stop.Stop.TheVariants.{Memory as OutOfMemory, Fault as Failed, Long as TooLong}
-use Rattle.flowcheck_cli.proofs.Taken.{takes-first_at}
 
 -- names that differ
 names_differ : (a b : List ℕ) → a ≢ b → bytes_eq a b ≡ false

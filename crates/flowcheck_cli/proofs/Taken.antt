@@ -1,17 +1,8 @@
 -- From what the reads of an input took to what is said of it where the inputs tell.
-use Rattle.std.proofs.Common.{◌≡◌, ◌≤◌, ◌^◌, ℕ, List, ◌++◌, length, Option, sym, ap, subst}
-use Rattle.std.specs.Prelude.{IfSome}
+use Rattle.std.proofs.Common.{◌≡◌, ℕ, List, length, Option, sym, subst}
 use Rattle.flow_io.specs.Outside.{Selected, Starts, Took}
-use Rattle.program_runs.proofs.Inputs.{seen_at, left-at, taken-at, where_took}
-use Rattle.flowcheck_cli.specs.Inputs.{WhereSeen, taken, TakesFirst}
-
--- the bytes taken are the first ones
-pub takes-first_at : (file bytes rest : List ℕ) → length bytes ≤ 2 ^ 30 → TakesFirst file (seen_at file bytes rest)
-takes-first_at file bytes rest most = record {
-  most = subst (λ b. length b ≤ 2 ^ 30) (sym (taken-at file bytes rest)) most;
-  rest = subst (λ o. IfSome o (λ left. bytes ++ rest ≡ taken file (seen_at file bytes rest) ++ left)) (sym (left-at file bytes rest))
-      (ap (λ b. b ++ rest) (sym (taken-at file bytes rest)));
-}
+use Rattle.program_runs.proofs.Inputs.{taken-at, where_took}
+use Rattle.flowcheck_cli.specs.Inputs.{WhereSeen, taken}
 
 -- so many bytes were taken
 pub takes-count : (file : List ℕ) (held : Option (List ℕ)) (first last : Option (Option Selected)) (bytes : List ℕ) (n : ℕ) →

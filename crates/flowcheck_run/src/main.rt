@@ -3,7 +3,7 @@
 
 use flow_io::{HostInputs, HostOutput, Status};
 use flowcheck_cli::{flowcheck, tell};
-use std::env;
+use program_runs::words_after_name;
 use std::process::ExitCode;
 
 fn main(rt: HostRuntime) -> ExitCode {
@@ -23,16 +23,5 @@ fn run(rt: &HostRuntime) -> Status {
             tell(status, &mut notes);
             status
         }
-    }
-}
-
-/// The words after the program's own name. Words that the host does not give as texts are wrong words.
-fn words_after_name(rt: &HostRuntime) -> Result<Vec<String>, Status> {
-    let Ok(words) = env::args(rt) else {
-        return Err(Status::Words);
-    };
-    match words.skip(1).collect(rt.alloc()) {
-        Ok(words) => Ok(words),
-        Err(_) => Err(Status::Memory),
     }
 }

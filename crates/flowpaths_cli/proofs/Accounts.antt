@@ -1,6 +1,6 @@
 -- From what a run took and wrote to what is said of it where the inputs and the output tell.
-use Rattle.std.proofs.Common.{◌≡◌, ◌≤◌, ◌<◌, ◌^◌, ℕ, List, [], ◌++◌, length, Option, Some, None, refl, sym, ap, subst, ◌∙◌, arith, inl, inr}
-use Rattle.std.specs.Prelude.{IfSome, IfNone}
+use Rattle.std.proofs.Common.{◌≡◌, ◌⊎◌, ◌<◌, ◌^◌, ℕ, List, [], ◌++◌, length, Option, Some, None, refl, sym, ap, subst, ◌∙◌, arith, inl, inr}
+use Rattle.std.specs.Prelude.{IfSome, IfNone, is_some}
 use Rattle.std.proofs.lemmas.List.{append_cancel_left}
 use Rattle.flow_io.specs.Outside.{Selected, Starts, Unselected}
 use Rattle.flow_io.proofs.Adding.{Adds-nothing}
@@ -9,10 +9,10 @@ use Rattle.flow_io.specs.declared.status.Status.TheVariants.{Clean, Partial, Ref
 use Rattle.graph_text.specs.Blocks.{blocks, complete}
 use Rattle.program_runs.proofs.FirstBlocks.{first-at}
 use Rattle.program_runs.proofs.HandedBlocks.{blocks-seen}
-use Rattle.program_runs.proofs.Inputs.{seen_at, left-at, taken-at, where_took, where_none}
+use Rattle.program_runs.proofs.Inputs.{seen_at, left-at, taken-at, takes-first_at, where_took, where_none}
 use Rattle.program_runs.proofs.Writing.{where_written}
 use Rattle.flowpaths_cli.specs.declared.settings.Settings.{Settings}
-use Rattle.flowpaths_cli.specs.Run.{Seen, WhereSeen, WhereWritten, taken, blocks_at, IsOutput, IsOutputWith, IsFirstOutput, BeginsOutput, Reads, Writes}
+use Rattle.flowpaths_cli.specs.Run.{Seen, WhereSeen, WhereWritten, blocks_at, IsOutput, IsOutputWith, IsFirstOutput, BeginsOutput, Reads, Writes}
 use Rattle.flowpaths_cli.specs.Reporting.{IsAtEnd, WroteFirst, WroteBeginning, EndsRight}
 
 -- what was read
@@ -22,9 +22,8 @@ reads-right s status held first last before now rose starts right =
     where_took (Reads s status) s.file held first last right.bytes starts right.took (λ rest at_end.
     let t = taken-at s.file right.bytes rest in
     record {
-      most = λ _. subst (λ b. length b ≤ 2 ^ 30) (sym t) right.most;
-      rest = λ _. subst (λ o. IfSome o (λ left. right.bytes ++ rest ≡ taken s.file (seen_at s.file right.bytes rest) ++ left)) (sym (left-at s.file right.bytes rest))
-          (ap (λ b. b ++ rest) (sym t));
+      first = takes-first_at s.file right.bytes rest right.most;
+      selected = λ _. ap is_some (left-at s.file right.bytes rest);
       ended = λ done. record {
         nothing_left = left-at s.file right.bytes rest ∙ ap Some (at_end (right.done done).0);
         short = subst (λ b. length b < 2 ^ 30) (sym t) (right.done done).1;
@@ -113,8 +112,8 @@ writes-right s status held first last before now rose starts right =
 nothing_selected : (s : Settings) (rose : Type 0) (held : List ℕ) → Reads s Fault (record { held = held; last = None }) × Writes s Fault rose (record { held = held; last = None }) []
 nothing_selected s rose held = (
   record {
-    most = λ _. omega arith;
-    rest = λ _. tt;
+    first = record { most = omega arith; rest = tt };
+    selected = λ e. absurd (let no' : ⊥ = cc in no');
     ended = λ h. absurd h;
     long = λ e. absurd (let no' : ⊥ = cc in no');
     verdict = λ h. absurd h;
@@ -157,6 +156,20 @@ memory-seen s (Some whole) (Some last) told rose =
 if_none : (T : Type 0) (o : Option T) (P : Type 0) → P → IfNone o P
 if_none T None P holds = holds
 if_none T (Some x) P holds = tt
+
+-- what was read, where memory was wanting for the words, and after the words were read
+pub early-reads : (settings : Option Settings) (Early : Type 0) (Later : Settings → Type 0) → Early → IfSome settings (λ s. IfNone s.demo (Early ⊎ Later s))
+early-reads None Early Later early = tt
+early-reads (Some s) Early Later early = if_none _ s.demo _ (inl early)
+
+weaken_none : (T : Type 0) (o : Option T) (P Q : Type 0) → (P → Q) → IfNone o P → IfNone o Q
+weaken_none T None P Q weaken holds = weaken holds
+weaken_none T (Some x) P Q weaken holds = tt
+
+pub later-reads : (settings : Option Settings) (s : Settings) (Early : Type 0) (Later : Settings → Type 0) → settings ≡ Some s → IfNone s.demo (Later s) →
+    IfSome settings (λ s. IfNone s.demo (Early ⊎ Later s))
+later-reads settings s Early Later is later =
+    subst (λ o. IfSome o (λ s. IfNone s.demo (Early ⊎ Later s))) (sym is) (weaken_none _ s.demo (Later s) (Early ⊎ Later s) inr later)
 
 -- the same, where the words name an input
 pub memory-writes : (settings : Option Settings) (held : Settings → Option (List ℕ)) (last : Option (Option Selected)) (told : Option (List ℕ)) (rose : Type 0) →

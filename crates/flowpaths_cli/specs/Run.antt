@@ -1,8 +1,8 @@
 -- What a run of the top call took and wrote.
-pub use Rattle.program_runs.specs.Inputs.{Seen, WhereSeen, left_of, bytes_without, taken, IsDone}
+pub use Rattle.program_runs.specs.Inputs.{Seen, WhereSeen, left_of, bytes_without, taken, TakesFirst, IsDone}
 pub use Rattle.program_runs.specs.Writing.{WhereWritten, Notes}
 pub use Rattle.program_runs.specs.HandedBlocks.{blocks_at}
-use Rattle.std.specs.Prelude.{◌≡◌, ◌≢◌, ℕ, ◌^◌, ◌<◌, ◌≤◌, List, [], ◌∷◌, ◌++◌, length, take, Some, IfSome, codes}
+use Rattle.std.specs.Prelude.{◌≡◌, ℕ, ◌^◌, ◌<◌, List, [], ◌∷◌, ◌++◌, length, take, Some, IsSome, codes}
 use Rattle.flow_io.specs.declared.status.Status.{Status}
 use Rattle.flow_io.specs.declared.status.Status.TheVariants.{Clean, Partial, Refused, Words, Fault, Memory, Long}
 use Rattle.graph_text.specs.Blocks.{TextBlock, blocks, complete}
@@ -44,8 +44,8 @@ BeginsOutput s blocks text = (rest : List ℕ) × IsFirstOutput s blocks (text +
 
 -- what a run with this status took of its input
 pub record Reads (s : Settings) (status : Status) (seen : Seen) : Type 0 where
-  pub most : status ≢ Memory → length (taken s.file seen) ≤ 2 ^ 30
-  pub rest : status ≢ Memory → IfSome (left_of s.file seen.last) (λ left. seen.held ≡ taken s.file seen ++ left)
+  pub first : TakesFirst s.file seen
+  pub selected : status ≡ Memory → IsSome (left_of s.file seen.last)
   pub ended : IsDone status → HasEnded s.file seen
   pub long : status ≡ Long → length (taken s.file seen) ≡ 2 ^ 30
   pub verdict : IsDone status → (text : List ℕ) × IsOutputWith s status (blocks (taken s.file seen)) text

@@ -25,9 +25,10 @@ pub fn flowpaths<I: Inputs, O: Output, E: Output>(
     // The input that the words name may be asked for.
     requires { IfSome (settings_of (texts words.now)) (λ s. IfNone s.demo (I.may_ask inputs.old s.file)) }
 
-    // What was read, where the inputs tell it.
+    // What was read, where the inputs tell it. Where memory is wanting for the words, nothing is asked for, read or written.
     ensures reads { IfSome (settings_of (texts words.now)) (λ s. IfNone s.demo
-        (WhereSeen (I.holds inputs.old s.file) (I.selected inputs.new) (Reads s result))) }
+        (((result ≡ Status.Memory) × (inputs.new ≡ inputs.old) × (out.new ≡ out.old))
+        ⊎ WhereSeen (I.holds inputs.old s.file) (I.selected inputs.new) (Reads s result))) }
 
     // What was written, where the inputs and the output tell it.
     ensures writes { IfSome (settings_of (texts words.now)) (λ s. IfNone s.demo
@@ -69,7 +70,8 @@ pub fn flowpaths<I: Inputs, O: Output, E: Output>(
 fn run<I: Inputs, O: Output>(alloc: Global, words: &[String], inputs: &mut I, out: &mut O) -> Status
     requires { IfSome (settings_of (texts words.now)) (λ s. IfNone s.demo (I.may_ask inputs.old s.file)) }
     ensures reads { IfSome (settings_of (texts words.now)) (λ s. IfNone s.demo
-        (WhereSeen (I.holds inputs.old s.file) (I.selected inputs.new) (Reads s result))) }
+        (((result ≡ Status.Memory) × (inputs.new ≡ inputs.old) × (out.new ≡ out.old))
+        ⊎ WhereSeen (I.holds inputs.old s.file) (I.selected inputs.new) (Reads s result))) }
     ensures writes { IfSome (settings_of (texts words.now)) (λ s. IfNone s.demo
         (WhereSeen (I.holds inputs.old s.file) (I.selected inputs.new) (λ seen.
         WhereWritten (O.written out.old) (O.written out.new)

@@ -1,13 +1,13 @@
 -- From what the reads of an input took to what is said of it where the inputs tell.
-use Rattle.std.proofs.Common.{◌≡◌, ◌<◌, ◌-◌, ℕ, List, [], ◌++◌, length, take, drop, Option, Some, None, sym, ap, subst, ◌∙◌, refl, arith, length-append}
-use Rattle.std.specs.Prelude.{is_some}
+use Rattle.std.proofs.Common.{◌≡◌, ◌<◌, ◌≤◌, ◌^◌, ◌-◌, ℕ, List, [], ◌++◌, length, take, drop, Option, Some, None, sym, ap, subst, ◌∙◌, refl, arith, length-append}
+use Rattle.std.specs.Prelude.{is_some, IfSome}
 use Rattle.std.specs.Str.{bytes_eq}
 use Rattle.std.proofs.lemmas.Bool.{cond-true}
 use Rattle.std.proofs.lemmas.Option.{none-some}
 use Rattle.std.proofs.lemmas.Slice.Eq.{bytes_eq-Decides}
 use Rattle.std.proofs.Math.Seq.{take-append_seam, drop-nil}
 use Rattle.flow_io.specs.Outside.{Selected, Starts, Unselected, Took, Puts, after_read, skipped}
-use Rattle.program_runs.specs.Inputs.{Seen, WhereSeen, left_of, taken, bytes_without, IsAtEnd}
+use Rattle.program_runs.specs.Inputs.{Seen, WhereSeen, left_of, taken, bytes_without, TakesFirst, IsAtEnd}
 
 -- the named input is the selected one, with this rest of what it holds
 abbrev pub seen_at : List ℕ → List ℕ → List ℕ → Seen
@@ -20,6 +20,14 @@ pub taken-at : (file bytes rest : List ℕ) → taken file (seen_at file bytes r
 taken-at file bytes rest =
     let count : length (bytes ++ rest) - length rest ≡ length bytes = omega (arith, length-append bytes rest) in
     ap (bytes_without (bytes ++ rest)) (left-at file bytes rest) ∙ ap (λ k. take k (bytes ++ rest)) count ∙ take-append_seam bytes rest
+
+-- the bytes taken are the first ones
+pub takes-first_at : (file bytes rest : List ℕ) → length bytes ≤ 2 ^ 30 → TakesFirst file (seen_at file bytes rest)
+takes-first_at file bytes rest most = record {
+  most = subst (λ b. length b ≤ 2 ^ 30) (sym (taken-at file bytes rest)) most;
+  rest = subst (λ o. IfSome o (λ left. bytes ++ rest ≡ taken file (seen_at file bytes rest) ++ left)) (sym (left-at file bytes rest))
+      (ap (λ b. b ++ rest) (sym (taken-at file bytes rest)));
+}
 
 -- what holds of every such input holds of what a run that took these bytes tells
 pub where_took : (P : Seen → Type 0) (file : List ℕ) (held : Option (List ℕ)) (first last : Option (Option Selected)) (bytes : List ℕ) →
