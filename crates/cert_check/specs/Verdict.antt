@@ -37,6 +37,14 @@ item_count (Tree tree) = length tree.tokens
 item_count (Cut side vertices) = length vertices
 item_count (Crowd edge rules) = length rules
 
+-- how many tokens a certificate has
+abbrev pub token_count : Cert → ℕ
+token_count Zero = 0
+token_count (Wide edges) = 0
+token_count (Tree tree) = length tree.tokens
+token_count (Cut side vertices) = 0
+token_count (Crowd edge rules) = 0
+
 -- how many lines a trail has: its own, and one for each token
 abbrev pub trail_lines : Option Trail → ℕ
 trail_lines None = 0
@@ -90,11 +98,11 @@ abbrev pub IsVerdictOn : Mode → Instance → Report → Verdict → Type 0
 IsVerdictOn mode i r Yes = IsAccepted mode i r
 IsVerdictOn mode i r (No place) = FailsAt mode i r place
 
--- fewer than 2 ^ 32 paths, items of the certificate, and tokens
+-- fewer than 2 ^ 32 paths, and fewer than 2 ^ 32 tokens in the certificate and in the trail
 pub record IsShort (s : Solved) : Type 0 where
   pub few_paths : length s.paths < 2 ^ 32
-  pub few_items : item_count s.cert < 2 ^ 32
-  pub few_tokens : trail_lines s.trail ≤ 2 ^ 32
+  pub few_tokens : token_count s.cert < 2 ^ 32
+  pub few_in_trail : trail_lines s.trail ≤ 2 ^ 32
 
 abbrev pub IsShortBody : Body → Type 0
 IsShortBody (Refused refusal) = Unit {0}

@@ -8,7 +8,7 @@ ghost use Rattle.decomposition.specs.Tokens.{IsRefutation};
 ghost use Rattle.flow_models.specs.Problem.{instance};
 ghost use Rattle.path_report.specs.declared.report.Cert.TheVariants.{Wide, Tree};
 ghost use Rattle.cert_check.specs.Accepted.{ShowsBound, ShowsNone};
-ghost use Rattle.cert_check.specs.Verdict.{item_count, Holds};
+ghost use Rattle.cert_check.specs.Verdict.{token_count, Holds};
 ghost use Rattle.cert_check.specs.Verdict.Line.{CertLine};
 
 use crate::crowd::check_crowd;
@@ -91,7 +91,7 @@ fn shows_bound(
 ) -> Result<bool, AllocError>
     requires valid { IsInstance mode.now (instance net.now p.now) }
     requires cap { p.now.cap ≡ greatest_hi p.now.ranges }
-    requires few { item_count cert.now < 2 ^ 32 }
+    requires few { token_count cert.now < 2 ^ 32 }
     ensures { IfOk result (λ shows. IsTrue shows ↔ ShowsBound mode.now (instance net.now p.now) lower cert.now) }
 {
     match cert {
@@ -112,7 +112,7 @@ fn shows_none(
 ) -> Result<bool, AllocError>
     requires valid { IsInstance mode.now (instance net.now p.now) }
     requires cap { p.now.cap ≡ greatest_hi p.now.ranges }
-    requires few { item_count cert.now < 2 ^ 32 }
+    requires few { token_count cert.now < 2 ^ 32 }
     ensures { IfOk result (λ shows. IsTrue shows ↔ ShowsNone mode.now (instance net.now p.now) cert.now) }
 {
     match cert {
@@ -137,7 +137,7 @@ pub fn cert_fits(
 ) -> Result<bool, AllocError>
     requires valid { IsInstance mode.now (instance net.now p.now) }
     requires cap { p.now.cap ≡ greatest_hi p.now.ranges }
-    requires few { item_count solved.now.cert < 2 ^ 32 }
+    requires few { token_count solved.now.cert < 2 ^ 32 }
     ensures { IfOk result (λ fits. IsTrue fits ↔ Holds mode.now (instance net.now p.now) solved.now CertLine) }
 {
     if solved.mark == Mark::Infeasible {

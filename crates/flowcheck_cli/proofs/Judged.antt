@@ -10,12 +10,12 @@ use Rattle.path_report.specs.BadLines.{IsTextOf}
 use Rattle.path_report.specs.declared.report.Report.{Report}
 use Rattle.path_report.specs.declared.report.Body.{Body}
 use Rattle.path_report.specs.declared.report.Body.TheVariants.{Refused, Solved as SolvedBody}
-use Rattle.cert_check.specs.Verdict.{IsVerdictOn, IsShortBody, BodyFailsAt as ClaimFailsAt}
+use Rattle.cert_check.specs.Verdict.{IsVerdictOn, BodyFailsAt as ClaimFailsAt}
 use Rattle.cert_check.specs.declared.report.Verdict.{Verdict}
 use Rattle.cert_check.specs.declared.report.Verdict.TheVariants.{Yes, No}
 use Rattle.program_runs.specs.HandedBlocks.{labels_of}
 use Rattle.flowcheck_cli.specs.Outcomes.{NamesBlock, IsBodyVerdict, IsReportVerdict, IsBlockOutcome, outcome_of}
-use Rattle.flowcheck_cli.specs.Short.{IsSmall}
+use Rattle.flowcheck_cli.specs.Short.{HasFewLines, IsSmall}
 use Rattle.flowcheck_cli.proofs.ReportSizes.{place-small}
 
 -- a verdict of the checker on a report that names the model is one on its body
@@ -28,12 +28,12 @@ pub graph-verdict-of : (mode : Mode) (i : Instance) (graph : RawGraph) (report :
     IsVerdictOn mode i report v → IsBodyVerdict mode (Ok graph) report.body v
 graph-verdict-of mode i graph report v is same says = graph-verdict mode graph report v same (subst (λ (j : Instance). IsVerdictOn mode j report v) is says)
 
-body-place : (mode : Mode) (i : Instance) (body : Body) (n : ℕ) → IsShortBody body → ClaimFailsAt mode i body n → (1 ≤ n) × (n < 2 ^ 36)
+body-place : (mode : Mode) (i : Instance) (body : Body) (n : ℕ) → HasFewLines body → ClaimFailsAt mode i body n → (1 ≤ n) × (n < 2 ^ 36)
 body-place mode i (Refused refusal) n short fails = subst (λ m. (1 ≤ m) × (m < 2 ^ 36)) (sym fails) (omega arith, omega arith)
 body-place mode i (SolvedBody s) n short fails = subst (λ m. (1 ≤ m) × (m < 2 ^ 36)) fails.here (place-small s fails.line short)
 
 -- its line is a small number
-pub graph-small : (mode : Mode) (i : Instance) (report : Report) (v : Verdict) → IsShortBody report.body → IsVerdictOn mode i report v → IsSmall v
+pub graph-small : (mode : Mode) (i : Instance) (report : Report) (v : Verdict) → HasFewLines report.body → IsVerdictOn mode i report v → IsSmall v
 graph-small mode i report Yes short says = tt
 graph-small mode i report (No n) short says = elim says [
   | inl other ↦ subst (λ m. (1 ≤ m) × (m < 2 ^ 36)) (sym other.1) (omega arith, omega arith)

@@ -15,8 +15,9 @@ use Rattle.path_report.specs.declared.report.Report.{Report}
 use Rattle.path_report.specs.BadLines.{IsTextOf}
 use Rattle.path_report.specs.Names.{names_along}
 use Rattle.path_report.specs.ReportText.{line, side_word, trail_fields, edge_line, vertex_line, rule_line, token_line, path_line, cert_text, trail_text, safe_text, marks_text, solved_text, body_text, graph_line, model_line}
-use Rattle.cert_check.specs.Verdict.{Line, item_count, trail_lines, place_of, IsShort, IsShortBody}
+use Rattle.cert_check.specs.Verdict.{Line, item_count, token_count, trail_lines, place_of, IsShortBody}
 use Rattle.cert_check.specs.Verdict.Line.{MarkLine, UpperLine, CertLine, TrailLine, SafeLine}
+use Rattle.flowcheck_cli.specs.Short.{HasFewItems, HasFewLines}
 
 -- a line has a byte
 line-some : (fields : List (List ℕ)) → 1 ≤ length (line fields)
@@ -70,30 +71,44 @@ parts-below a b c d e n small =
 third-below : (a b c d : List ℕ) (n : ℕ) → length (a ++ b ++ c ++ d) < n → length c < n
 third-below a b c d n small = omega (arith, small, length-append (a ++ b ++ c) d, length-append (a ++ b) c)
 
-solved-short : (labels : LabelLists) (s : Solved) → length (solved_text labels s) < 2 ^ 32 → IsShort s
+solved-short : (labels : LabelLists) (s : Solved) → length (solved_text labels s) < 2 ^ 32 → HasFewItems s
 solved-short labels s small =
     let parts = parts-below (marks_text s) (flat_map (path_line labels) s.paths) (cert_text labels s.cert) (trail_text s.trail) (safe_text labels s.safe) (2 ^ 32) small in
     record {
-      few_paths = omega (arith, parts.0, items-fit (path_line labels) (λ entry. line-some (codes "path" ∷ decimal entry.1 ∷ names_along labels entry.0)) s.paths);
-      few_items = omega (arith, parts.1, cert-fits labels s.cert);
-      few_tokens = omega (arith, parts.2, trail-fits s.trail);
+      paths = omega (arith, parts.0, items-fit (path_line labels) (λ entry. line-some (codes "path" ∷ decimal entry.1 ∷ names_along labels entry.0)) s.paths);
+      items = omega (arith, parts.1, cert-fits labels s.cert);
+      trail = omega (arith, parts.2, trail-fits s.trail);
     }
 
-body-short : (labels : LabelLists) (body : Body) → length (body_text labels body) < 2 ^ 32 → IsShortBody body
+body-short : (labels : LabelLists) (body : Body) → length (body_text labels body) < 2 ^ 32 → HasFewLines body
 body-short labels (Refused refusal) small = tt
 body-short labels (SolvedBody s) small = solved-short labels s small
 
 -- the report of a short text is short
-pub report-short : (labels : LabelLists) (report : Report) (text : List ℕ) → IsTextOf labels report text → length text < 2 ^ 32 → IsShortBody report.body
+pub report-short : (labels : LabelLists) (report : Report) (text : List ℕ) → IsTextOf labels report text → length text < 2 ^ 32 → HasFewLines report.body
 report-short labels report text is small =
     body-short labels report.body
     (third-below (graph_line report.index report.name) (model_line report.mode) (body_text labels report.body) (line (codes "end" ∷ [])) (2 ^ 32)
     (subst (λ t. length t < 2 ^ 32) is.text_is small))
 
+-- a certificate has no more tokens than items
+tokens-below : (cert : Cert) → token_count cert ≤ item_count cert
+tokens-below Zero = omega arith
+tokens-below (Wide edges) = omega arith
+tokens-below (Tree tree) = omega arith
+tokens-below (Cut side vertices) = omega arith
+tokens-below (Crowd e rules) = omega arith
+
+-- a body with few lines is short enough to be checked
+pub few-short : (body : Body) → HasFewLines body → IsShortBody body
+few-short (Refused refusal) few = tt
+few-short (SolvedBody s) few =
+    record { few_paths = few.paths; few_tokens = omega (arith, tokens-below s.cert, few.items); few_in_trail = few.trail }
+
 -- the line whose clause fails is a small number
-pub place-small : (s : Solved) (l : Line) → IsShort s → (1 ≤ place_of s l) × (place_of s l < 2 ^ 36)
+pub place-small : (s : Solved) (l : Line) → HasFewItems s → (1 ≤ place_of s l) × (place_of s l < 2 ^ 36)
 place-small s MarkLine short = (omega arith, omega arith)
 place-small s UpperLine short = (omega arith, omega arith)
-place-small s CertLine short = (omega arith, omega (arith, short.few_paths))
-place-small s TrailLine short = (omega arith, omega (arith, short.few_paths, short.few_items))
-place-small s SafeLine short = (omega arith, omega (arith, short.few_paths, short.few_items, short.few_tokens))
+place-small s CertLine short = (omega arith, omega (arith, short.paths))
+place-small s TrailLine short = (omega arith, omega (arith, short.paths, short.items))
+place-small s SafeLine short = (omega arith, omega (arith, short.paths, short.items, short.trail))

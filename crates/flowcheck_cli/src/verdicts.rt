@@ -2,9 +2,8 @@
 ghost use Rattle.std.specs.Prelude.{◌≡◌, Ok, Err, IfOk, MatchBool};
 ghost use Rattle.decomposition.specs.declared.Mode.{Mode as AMode};
 ghost use Rattle.graph_text.specs.Accepted.{IsAccepted};
-ghost use Rattle.cert_check.specs.Verdict.{IsShortBody};
 ghost use Rattle.flowcheck_cli.specs.Outcomes.{NamesBlock, NamesOther, IsBodyVerdict, IsReportVerdict};
-ghost use Rattle.flowcheck_cli.specs.Short.{IsSmall};
+ghost use Rattle.flowcheck_cli.specs.Short.{HasFewLines, IsSmall};
 
 use cert_check::{Verdict, check_report};
 use dag_net::Mode;
@@ -21,7 +20,7 @@ pub fn verdict_on(
     report: &Report,
 ) -> Result<Verdict, AllocError>
     requires valid { IfOk block.now.body (IsAccepted mode) }
-    requires few { IsShortBody report.now.body }
+    requires few { HasFewLines report.now.body }
     ensures exact { IfOk result (IsReportVerdict mode block.now report.now) }
     ensures small { IfOk result IsSmall }
 {
@@ -63,7 +62,7 @@ fn verdict_on_graph(
     report: &Report,
 ) -> Result<Verdict, AllocError>
     requires valid { IsAccepted mode graph.now }
-    requires few { IsShortBody report.now.body }
+    requires few { HasFewLines report.now.body }
     requires model { report.now.mode ≡ mode }
     ensures exact { IfOk result (IsBodyVerdict mode (Ok graph.now) report.now.body) }
     ensures small { IfOk result IsSmall }

@@ -78,7 +78,10 @@ impl BlockReader {
         ensures ends { OnOk result ((bytes : List ℕ) → StandsFor self.old bytes → Ends self.old self.new bytes) }
         ensures works { OnOk result (has_failed self.new ≡ false) }
         ensures finished { OnOk result (has_finished self.new ≡ true) }
+
+        // After an `Err` no block waits and it has not answered Ok, so it may be called again; a reader that has failed answers `Err` from then on.
         ensures err { OnErr result (HasFailed self.new) }
+        ensures unfinished { OnErr result (has_finished self.new ≡ false) }
         ensures failed { has_failed self.old ≡ true → IsErr result }
         ensures mode { mode_of self.new ≡ mode_of self.old }
     {

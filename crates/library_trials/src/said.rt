@@ -6,7 +6,7 @@ ghost use Rattle.decomposition.specs.Graph.{edge_count};
 ghost use Rattle.decomposition.specs.Flow.{IsBalanced};
 ghost use Rattle.decomposition.specs.Instance.{range_at, greatest_hi, FitsModel, IsInstance};
 ghost use Rattle.flow_models.specs.Problem.{instance};
-ghost use Rattle.cert_check.specs.Verdict.{IsShort, item_count, trail_lines};
+ghost use Rattle.cert_check.specs.Verdict.{IsShort, token_count, trail_lines};
 
 use crate::certs::ruled_problem;
 use cert_check::{Verdict, check_report};
@@ -101,7 +101,7 @@ fn trail(alloc: Global, tree: Tree) -> Result<Trail, Fail>
 
 /// The certificate that is shown.
 fn cert(alloc: Global, shown: Shown) -> Result<Cert, Fail>
-    ensures { IfOk result (λ cert. item_count cert < 99) }
+    ensures { IfOk result (λ cert. token_count cert < 99) }
 {
     match shown {
         Shown::Zero => Ok(Cert::Zero),

@@ -8,7 +8,11 @@ use Rattle.flowcheck_cli.specs.Outcomes.{IsBodyVerdict}
 use Rattle.flowcheck_cli.specs.Short.{IsSmall}
 use Rattle.program_runs.proofs.Problems.{problem_is}
 use Rattle.flowcheck_cli.proofs.Judged.{graph-verdict-of, graph-small}
+use Rattle.flowcheck_cli.proofs.ReportSizes.{few-short}
 use Rattle.flowcheck_cli.proofs.verdicts.verdict_on_graph.Goals as goal
+
+pub check_report-requires-clause-few : goal.check_report-requires-clause-few
+check_report-requires-clause-few c = few-short c.args.report.now.body c.requires.few
 
 pub returns-clause-exact : goal.returns-clause-exact
 returns-clause-exact c =
