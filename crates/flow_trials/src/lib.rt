@@ -19,8 +19,10 @@ mod rows;
 mod runs;
 #[cfg(test)]
 mod safe;
+mod sure;
 #[cfg(test)]
 mod words;
 
 pub use answered::outputs_are_answered_yes;
 pub use runs::{Ran, run, run_on};
+pub use sure::{flowcheck_surely, flowpaths_surely};
