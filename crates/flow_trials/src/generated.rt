@@ -2,7 +2,7 @@
 
 use crate::rows::ONE;
 use crate::runs::{ROOM, run};
-use demo_text::demo;
+use flowpaths_cli::demo;
 use flow_io::{MemInputs, MemOutput, Status};
 use std::test::Fail;
 
