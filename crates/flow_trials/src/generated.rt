@@ -2,8 +2,8 @@
 
 use crate::rows::ONE;
 use crate::runs::{ROOM, run};
-use flowpaths_cli::demo;
 use flow_io::{MemInputs, MemOutput, Status};
+use flowpaths_cli::demo;
 use std::test::Fail;
 
 /// The words of a run, the lines that it writes and its status.
