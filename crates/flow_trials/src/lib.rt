@@ -15,8 +15,10 @@ mod refused;
 #[cfg(test)]
 mod rows;
 mod runs;
+mod sure;
 #[cfg(test)]
 mod words;
 
 pub use answered::outputs_are_answered_yes;
 pub use runs::{Ran, run, run_on};
+pub use sure::{flowcheck_surely, flowpaths_surely};
