@@ -19,8 +19,9 @@ use Rattle.path_report.specs.declared.report.Mark.{Mark}
 use Rattle.path_report.specs.declared.report.Mark.TheVariants.{Optimal, Infeasible, Bounds}
 use Rattle.path_report.specs.declared.report.Solved.{Solved}
 use Rattle.path_report.specs.declared.report.Trail.{Trail}
-use Rattle.flowpaths_cli.specs.AcceptedReports.{RightReportsAreAccepted}
+use Rattle.flowpaths_cli.specs.AcceptedReports.{RightReportsAreAccepted, SolvedReportsAreAccepted}
 use Rattle.flowpaths_cli.specs.Right.{AreBuilt, AreListed, ArePathsFor, BodyRight, CountsPaths, HasEachPathOnce, HasRanges, IsCertFor, IsCertOfNone, IsMarked, IsTrailFor, SolvedRight, decision_between}
+use Rattle.flowpaths_cli.specs.Solving.{AreForSolving}
 use Rattle.flowpaths_cli.specs.declared.settings.Settings.{Settings}
 
 -- where there are ranges, the number of paths is to be least
@@ -88,20 +89,28 @@ trail_fits nodes mode i s Bounds h =
     subst (λ l. IsSomeAnd s.trail (λ t. LeavesOpen mode i l s.upper t)) (sym h.lower)
     (each_some s.trail (IsTrailFor nodes mode i h.value s.upper) (LeavesOpen mode i (Some h.value) s.upper) (λ t for. leaves_open nodes mode i h.value s.upper t h.upper for) h.trail)
 
-safe_fits : (set : Settings) (i : Instance) (runs : Option (List (List ℕ))) → AreBuilt set → AreListed set i runs → SafeFits set.mode i runs
-safe_fits set i None built h = tt
-safe_fits set i (Some runs) built h = (built.safe (sym h.0), h.1)
+safe_fits : (set : Settings) (i : Instance) (runs : Option (List (List ℕ))) → AreForSolving set → AreListed set i runs → SafeFits set.mode i runs
+safe_fits set i None ready h = tt
+safe_fits set i (Some runs) ready h = (ready.safe (sym h.0), h.1)
 
-solved_accepted : (set : Settings) (i : Instance) (s : Solved) → AreBuilt set → SolvedRight set i s → IsAcceptedSolved set.mode i s
-solved_accepted set i s built right MarkLine = mark_fits set.nodes set.mode i s s.mark right.marked
-solved_accepted set i s built right UpperLine = paths_fit set.mode i s.upper s.paths right.once right.paths
-solved_accepted set i s built right CertLine = cert_fits set.nodes set.mode i s s.mark right.marked
-solved_accepted set i s built right TrailLine = trail_fits set.nodes set.mode i s s.mark right.marked
-solved_accepted set i s built right SafeLine = safe_fits set i s.safe built right.safe
+solved_accepted : (set : Settings) (i : Instance) (s : Solved) → AreForSolving set → SolvedRight set i s → IsAcceptedSolved set.mode i s
+solved_accepted set i s ready right MarkLine = mark_fits set.nodes set.mode i s s.mark right.marked
+solved_accepted set i s ready right UpperLine = paths_fit set.mode i s.upper s.paths right.once right.paths
+solved_accepted set i s ready right CertLine = cert_fits set.nodes set.mode i s s.mark right.marked
+solved_accepted set i s ready right TrailLine = trail_fits set.nodes set.mode i s s.mark right.marked
+solved_accepted set i s ready right SafeLine = safe_fits set i s.safe ready right.safe
+
+pub solved_reports_are_accepted : SolvedReportsAreAccepted
+solved_reports_are_accepted s i solved report ready right mode body =
+    record { model = mode; body = subst (IsAcceptedBody s.mode i) (sym body) (solved_accepted s i solved ready right) }
+
+-- settings that are built serve to solve a graph
+pub built_ready : (set : Settings) → AreBuilt set → AreForSolving set
+built_ready set built = record { least = built.least; most = built.most; mode = built.mode; safe = built.safe }
 
 body_accepted : (set : Settings) (graph : RawGraph) (body : Body) → AreBuilt set → BodyRight set (Ok graph) body → IsAcceptedBody set.mode (instance_of graph) body
 body_accepted set graph (Refused refusal) built right = right
-body_accepted set graph (SolvedBody s) built right = solved_accepted set (instance_of graph) s built right
+body_accepted set graph (SolvedBody s) built right = solved_accepted set (instance_of graph) s (built_ready set built) right
 
 pub right_reports_are_accepted : RightReportsAreAccepted
 right_reports_are_accepted s block graph report text built is_read right =

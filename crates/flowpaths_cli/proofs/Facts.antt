@@ -9,7 +9,8 @@ use Rattle.path_report.specs.Laws.{AreRisingEdges}
 use Rattle.flowpaths_cli.specs.declared.counting.Finding.{Finding}
 use Rattle.flowpaths_cli.specs.Firsts.{IsBeginning}
 use Rattle.flowpaths_cli.specs.declared.settings.Settings.{Settings}
-use Rattle.flowpaths_cli.specs.Right.{AreBuilt, CountsPaths, HasRanges, NothingIsWithin}
+use Rattle.flowpaths_cli.specs.Right.{CountsPaths, HasRanges, NothingIsWithin}
+use Rattle.flowpaths_cli.specs.Solving.{AreForSolving}
 use Rattle.flowpaths_cli.specs.Searched.{FindsAs, IsSolvedBy, count_of}
 use Rattle.flowpaths_cli.proofs.Beginnings.{first-kept, fits-kept}
 
@@ -33,5 +34,5 @@ denied true never = absurd (never refl)
 denied false never = refl
 
 -- in a model other than exact no safe runs are asked for
-pub not_safe : (set : Settings) (mode : Mode) → AreBuilt set → set.mode ≡ mode → (mode ≡ Exact → ⊥) → set.safe ≡ false
-not_safe set mode built is other = denied set.safe (λ safe. other (sym is ∙ built.safe safe))
+pub not_safe : (set : Settings) (mode : Mode) → AreForSolving set → set.mode ≡ mode → (mode ≡ Exact → ⊥) → set.safe ≡ false
+not_safe set mode ready is other = denied set.safe (λ safe. other (sym is ∙ ready.safe safe))

@@ -31,3 +31,4 @@ pub mod Countings
 pub mod SolvedGraphs
 pub mod GeneratedRuns
 pub mod Acceptance
+pub mod MadeReports

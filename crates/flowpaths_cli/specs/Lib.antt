@@ -7,6 +7,7 @@ pub mod Examples
 pub mod Booking
 pub mod Crowds
 pub mod Right
+pub mod Solving
 pub mod Searched
 pub mod Firsts
 pub mod Room

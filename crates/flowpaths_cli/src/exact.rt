@@ -8,7 +8,8 @@ ghost use Rattle.decomposition.specs.Instance.{IsInstance, greatest_hi};
 ghost use Rattle.decomposition.specs.SafeRuns.{IsSafeFor, AreMaximal};
 ghost use Rattle.flow_models.specs.Problem.{instance};
 ghost use Rattle.path_report.specs.Laws.{IsFoundIn};
-ghost use Rattle.flowpaths_cli.specs.Right.{AreBuilt, SolvedRight};
+ghost use Rattle.flowpaths_cli.specs.Right.{SolvedRight};
+ghost use Rattle.flowpaths_cli.specs.Solving.{AreForSolving};
 ghost use Rattle.flowpaths_cli.specs.Firsts.{IsFirstOfFlow};
 
 use crate::bounds::{lower_bounds, widest_antichain};
@@ -31,7 +32,7 @@ pub fn solve_exact(
     problem: &Problem,
     settings: &Settings,
 ) -> Result<Solved, AllocError>
-    requires built { AreBuilt settings.now }
+    requires ready { AreForSolving settings.now }
     requires exact { settings.now.mode ≡ Exact }
     requires valid { IsInstance Exact (instance net.now problem.now) }
     requires cap { problem.now.cap ≡ greatest_hi problem.now.ranges }

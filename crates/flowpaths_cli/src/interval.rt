@@ -9,7 +9,8 @@ ghost use Rattle.decomposition.specs.Instance.{IsInstance, greatest_hi};
 ghost use Rattle.flow_models.specs.Problem.{instance};
 ghost use Rattle.greedy_paths.specs.Built.{IsBuiltOn};
 ghost use Rattle.path_report.specs.Laws.{IsFoundIn};
-ghost use Rattle.flowpaths_cli.specs.Right.{AreBuilt, SolvedRight};
+ghost use Rattle.flowpaths_cli.specs.Right.{SolvedRight};
+ghost use Rattle.flowpaths_cli.specs.Solving.{AreForSolving};
 ghost use Rattle.flowpaths_cli.specs.Firsts.{IsWithin};
 
 use crate::bounds::{upper_bounds, widest_antichain};
@@ -43,7 +44,7 @@ pub fn solve_interval(
     problem: &Problem,
     settings: &Settings,
 ) -> Result<Solved, AllocError>
-    requires built { AreBuilt settings.now }
+    requires ready { AreForSolving settings.now }
     requires interval { settings.now.mode ≡ Interval }
     requires valid { IsInstance Interval (instance net.now problem.now) }
     requires cap { problem.now.cap ≡ greatest_hi problem.now.ranges }

@@ -6,7 +6,8 @@ ghost use Rattle.flow_models.specs.Problem.{instance};
 ghost use Rattle.path_report.specs.Laws.{IsFoundIn};
 ghost use Rattle.flowpaths_cli.specs.declared.settings.Settings.{Settings as Given};
 ghost use Rattle.flowpaths_cli.specs.Numbers.{most_nodes};
-ghost use Rattle.flowpaths_cli.specs.Right.{AreBuilt, SolvedRight};
+ghost use Rattle.flowpaths_cli.specs.Right.{SolvedRight};
+ghost use Rattle.flowpaths_cli.specs.Solving.{AreForSolving};
 ghost use Rattle.flowpaths_cli.specs.Searched.{AttemptsAs, IsFoundFor, IsNoWorseThanBooked, any_error};
 ghost use Rattle.flowpaths_cli.specs.Halved.{HalvesTo, IsHalvedFor, IsHalving, steps_left};
 
@@ -31,7 +32,7 @@ pub fn solve_least_error(
     settings: &Settings,
     k: u32,
 ) -> Result<Solved, AllocError>
-    requires built { AreBuilt settings.now }
+    requires ready { AreForSolving settings.now }
     requires least_error { settings.now.mode ≡ Abs k }
     requires valid { IsInstance (Abs k) (instance net.now problem.now) }
     requires cap { problem.now.cap ≡ greatest_hi problem.now.ranges }

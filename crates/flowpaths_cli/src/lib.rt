@@ -29,7 +29,7 @@ mod thin;
 mod widened;
 mod words;
 
-pub use accepted::right_reports_are_accepted;
+pub use accepted::{right_reports_are_accepted, solved_reports_are_accepted};
 pub use call::flowpaths;
 pub use examples::{words_are_refused, words_are_taken};
 pub use seeded::demo;

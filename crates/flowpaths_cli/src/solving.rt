@@ -1,9 +1,9 @@
 //! What a block is answered, model by model.
-ghost use Rattle.std.specs.Prelude.{IfOk, IsTrue};
-ghost use Rattle.graph_text.specs.Accepted.{IsAccepted};
+ghost use Rattle.std.specs.Prelude.{◌≤◌, length, IfOk};
+ghost use Rattle.decomposition.specs.Instance.{IsInstance};
 ghost use Rattle.graph_text.specs.Reading.{instance_of};
-ghost use Rattle.path_report.specs.ReportText.{is_regular_solved};
-ghost use Rattle.flowpaths_cli.specs.Right.{AreBuilt, SolvedRight};
+ghost use Rattle.flowpaths_cli.specs.Right.{SolvedRight};
+ghost use Rattle.flowpaths_cli.specs.Solving.{AreForSolving, IsRegularFor, IsReportable};
 
 use crate::exact::solve_exact;
 use crate::interval::solve_interval;
@@ -15,16 +15,19 @@ use path_report::Solved;
 use program_runs::problem_of;
 use std::alloc::{AllocError, Global};
 
-/// Solves the graph of a block.
+/// Solves a graph. A report of the answer is accepted by a check of its certificate, and has a text for all labels that have the edges of the net and a name for
+/// each of its vertices.
 pub fn solve_block(
     alloc: Global,
     graph: &RawGraph,
     settings: &Settings,
 ) -> Result<Solved, AllocError>
-    requires built { AreBuilt settings.now }
-    requires valid { IsAccepted settings.now.mode graph.now }
-    ensures regular { IfOk result (λ solved. IsTrue (is_regular_solved graph.now.labels solved)) }
+    requires ready { AreForSolving settings.now }
+    requires valid { IsInstance settings.now.mode (instance_of graph.now) }
+    requires few_runs { length graph.now.runs ≤ 32 }
     ensures right { IfOk result (SolvedRight settings.now (instance_of graph.now)) }
+    ensures regular { IfOk result (IsRegularFor graph.now.net) }
+    ensures reportable { IfOk result (IsReportable settings.now (instance_of graph.now)) }
 {
     let problem = problem_of(alloc, graph)?;
     match settings.mode {

@@ -16,7 +16,7 @@ returns-in-Cut-clause-right c =
     let i = instance c.args.net.now c.args.problem.now in
     let within = subst (IsWithin i) c.in-Cut.is c.in_ok-side.ensures in
     subst (SolvedRight c.args.settings.now i) (sym c.without_answer.ensures)
-    (right_by_cut c.args.settings.now i c.in-Cut.side c.in-Cut.vertices c.requires.interval (not_safe c.args.settings.now Interval c.requires.built c.requires.interval (λ e. let no' : ⊥ = cc in no')) c.requires.valid within.0)
+    (right_by_cut c.args.settings.now i c.in-Cut.side c.in-Cut.vertices c.requires.interval (not_safe c.args.settings.now Interval c.requires.ready c.requires.interval (λ e. let no' : ⊥ = cc in no')) c.requires.valid within.0)
 
 -- what is known when the searches have ended
 facts : (c : In_ok-finding-in-First) → IsSolvedBy c.args.settings.now.nodes Interval (instance c.args.net.now c.args.problem.now) c.in_ok-antichain-in-First.antichain c.in_ok-finding-in-First.finding
@@ -36,6 +36,6 @@ pub returns-in_ok-finding-in-First-clause-right : goal.returns-in_ok-finding-in-
 returns-in_ok-finding-in-First-clause-right c =
     let i = instance c.args.net.now c.args.problem.now in
     let set = c.args.settings.now in
-    let unsafe = not_safe set Interval c.requires.built c.requires.interval (λ e. let no' : ⊥ = cc in no') in
+    let unsafe = not_safe set Interval c.requires.ready c.requires.interval (λ e. let no' : ⊥ = cc in no') in
     c.solved_by.ensures.right set i (subst CountsPaths (sym c.requires.interval) tt) (sym unsafe, tt)
     (subst (λ m. IsSolvedBy set.nodes m i c.in_ok-antichain-in-First.antichain c.in_ok-finding-in-First.finding) (sym c.requires.interval) (facts (goal.at.returns-in_ok-finding-in-First-clause-right c).In_ok-finding-in-First))

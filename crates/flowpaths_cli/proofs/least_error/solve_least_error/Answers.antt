@@ -27,7 +27,7 @@ pub returns-in_ok-halved-in-Found-clause-right : goal.returns-in_ok-halved-in-Fo
 returns-in_ok-halved-in-Found-clause-right c =
     let set = c.args.settings.now in
     c.halved_by.ensures.right set c.args.k (instance c.args.net.now c.args.problem.now) c.requires.least_error
-    (not_safe set (Abs c.args.k) c.requires.built c.requires.least_error (λ e. let no' : ⊥ = cc in no')) (halved c)
+    (not_safe set (Abs c.args.k) c.requires.ready c.requires.least_error (λ e. let no' : ⊥ = cc in no')) (halved c)
 
 pub returns-in-Refuted-clause-right : goal.returns-in-Refuted-clause-right
 returns-in-Refuted-clause-right c =
@@ -36,4 +36,4 @@ returns-in-Refuted-clause-right c =
     let refuted = subst (AttemptsAs set.nodes i (any_error c.args.k)) c.in-Refuted.is c.in_ok-paths.ensures.attempts in
     let never = subst (IsNoWorseThanBooked c.args.k i) c.in-Refuted.is c.in_ok-paths.ensures.booked in
     subst (SolvedRight set i) (sym c.without_answer.ensures)
-    (right_never set c.args.k i c.in-Refuted.tree c.requires.least_error (not_safe set (Abs c.args.k) c.requires.built c.requires.least_error (λ e. let no' : ⊥ = cc in no')) c.requires.valid refuted never)
+    (right_never set c.args.k i c.in-Refuted.tree c.requires.least_error (not_safe set (Abs c.args.k) c.requires.ready c.requires.least_error (λ e. let no' : ⊥ = cc in no')) c.requires.valid refuted never)
