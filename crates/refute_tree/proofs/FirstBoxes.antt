@@ -5,7 +5,7 @@ use Rattle.std.proofs.lemmas.List.{get_or_read, append-nil}
 use Rattle.decomposition.specs.Boxes.{Slot, slot_at, upper_at, lower_at, may_contain, misses_over}
 use Rattle.decomposition.specs.Held.{box_paths}
 use Rattle.refute_tree.specs.Sums.{AreBounds}
-use Rattle.refute_tree.specs.declared.sums.Sums.{Sums}
+use Rattle.refute_tree.specs.declared.sums.Weights.{Weights}
 
 -- a slot that may contain a run, and a slot that may not
 pub misses-some : (all : List (List ℕ)) (b : List Slot) (r : List ℕ) (k n : ℕ) → k < n → 1 ≤ upper_at b k → may_contain all (slot_at b k).walk r ≡ true → misses_over all b r n ≡ false
@@ -24,12 +24,12 @@ pub misses-more : (all : List (List ℕ)) (b : List Slot) (r : List ℕ) (k : �
 misses-more all b r k before none = rw (add-one) (and_from (not (nat_le 1 (upper_at b k) && may_contain all (slot_at b k).walk r)) (misses_over all b r k) (ap not none) before)
 
 -- a bound that is read is that of the slot
-pub upper-read : (b : List Slot) (sums : Sums) (k u : ℕ) → length b ≡ vec_len sums.uppers → AreBounds b sums → k < length b → u ≡ get_or sums.uppers.items k u → upper_at b k ≡ u
+pub upper-read : (b : List Slot) (sums : Weights) (k u : ℕ) → length b ≡ vec_len sums.uppers → AreBounds b sums → k < length b → u ≡ get_or sums.uppers.items k u → upper_at b k ≡ u
 upper-read b sums k u room bounds inside is =
     let there : k < length sums.uppers.items = omega (arith, sums.uppers.ok.0) in
     sym (get_or_read sums.uppers.items k u there is 0 ∙ bounds.uppers k inside)
 
-pub lower-read : (b : List Slot) (sums : Sums) (k u : ℕ) → length b ≡ vec_len sums.lowers → AreBounds b sums → k < length b → u ≡ get_or sums.lowers.items k u → lower_at b k ≡ u
+pub lower-read : (b : List Slot) (sums : Weights) (k u : ℕ) → length b ≡ vec_len sums.lowers → AreBounds b sums → k < length b → u ≡ get_or sums.lowers.items k u → lower_at b k ≡ u
 lower-read b sums k u room bounds inside is =
     let there : k < length sums.lowers.items = omega (arith, sums.lowers.ok.0) in
     sym (get_or_read sums.lowers.items k u there is 0 ∙ bounds.lowers k inside)

@@ -10,7 +10,8 @@ use Rattle.link_cells.specs.Links.{walk_of}
 use Rattle.refute_tree.specs.Front.{Boxes, first_of, is_unfinished, may_take, may_branch, closing, closing_token, IsFirstOpen, IsOpenAnswer}
 use Rattle.decomposition.specs.Held.{IsOpen, box_paths}
 use Rattle.refute_tree.specs.OneBox.{place_of, boxes_of}
-use Rattle.refute_tree.specs.Kept.{shown, KeepsFirst, IsKept, SumsUp}
+use Rattle.refute_tree.specs.Kept.{shown, KeepsFirst, IsKept}
+use Rattle.refute_tree.specs.Sums.{SumsUp}
 use Rattle.refute_tree.proofs.ClosingTokens.{closing_token-open}
 use Rattle.refute_tree.proofs.FirstBoxes.{upper-read, lower-read}
 use Rattle.refute_tree.proofs.Placing.{slots_from-length, walk_at}

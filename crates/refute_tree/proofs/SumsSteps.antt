@@ -6,7 +6,7 @@ use Rattle.decomposition.specs.Boxes.{Slot, slot_at, upper_at, lower_at, may_hav
 use Rattle.decomposition.specs.Instance.{Instance, range}
 use Rattle.decomposition.proofs.Sums.{sum_below_more, sum_below-same}
 use Rattle.decomposition.proofs.Reach.{may_have-from}
-use Rattle.refute_tree.specs.declared.sums.Sums.{Sums}
+use Rattle.refute_tree.specs.declared.sums.Weights.{Weights}
 use Rattle.refute_tree.specs.Sums.{AreBounds, AreLows, AreHighs, high_at, AddsWhere, AddsWalk, Weighs, outside}
 use Rattle.refute_tree.proofs.SumsWeights.{within-more, cond-le}
 
@@ -18,7 +18,7 @@ AreLows-more b n more old new same is adds low e l =
     omega (arith, adds e (omega arith), one, low e (omega arith), sum_below_more term n)
 
 -- the greatest weights with one slot more
-AreHighs-more : (g : Graph) (b : List Slot) (n more : ℕ) (old new : Sums) → length new.high.items ≡ length old.high.items → more ≡ upper_at b n
+AreHighs-more : (g : Graph) (b : List Slot) (n more : ℕ) (old new : Weights) → length new.high.items ≡ length old.high.items → more ≡ upper_at b n
     → ((e : ℕ) → e < length old.high.items → high_at new e ≡ high_at old e + cond (may_have (paths g) (slot_at b n).walk e) more 0) → AreHighs g b n old → AreHighs g b (n + 1) new
 AreHighs-more g b n more old new same is adds high e l =
     let term = λ (k : ℕ). cond (may_have (paths g) (slot_at b k).walk e) (upper_at b k) 0 in
@@ -26,14 +26,14 @@ AreHighs-more g b n more old new same is adds high e l =
     adds e (omega (arith, l, same)) ∙ omega (arith, one, high e (omega (arith, l, same)), sum_below_more term n)
 
 -- the bounds are the same where the lists are
-AreBounds-same : (b : List Slot) (old new : Sums) → new.uppers ≡ old.uppers → new.lowers ≡ old.lowers → AreBounds b old → AreBounds b new
+AreBounds-same : (b : List Slot) (old new : Weights) → new.uppers ≡ old.uppers → new.lowers ≡ old.lowers → AreBounds b old → AreBounds b new
 AreBounds-same b old new uppers lowers bounds = record {
   uppers = λ k l. ap (λ v. slice_index v.items k) uppers ∙ bounds.uppers k l;
   lowers = λ k l. ap (λ v. slice_index v.items k) lowers ∙ bounds.lowers k l;
 }
 
 -- the slot's bounds are added
-pub Weighs-more : (g : Graph) (b : List Slot) (n lower upper : ℕ) (old new : Sums) → n < length b → lower ≡ slice_index old.lowers.items n → upper ≡ slice_index old.uppers.items n
+pub Weighs-more : (g : Graph) (b : List Slot) (n lower upper : ℕ) (old new : Weights) → n < length b → lower ≡ slice_index old.lowers.items n → upper ≡ slice_index old.uppers.items n
     → lower ≤ 2 ^ 64 - 1 → upper ≤ 2 ^ 64 - 1 → AddsWalk g (slot_at b n).walk lower upper old new → Weighs g b n old → Weighs g b (n + 1) new
 Weighs-more g b n lower upper old new h lower-is upper-is lower-fits upper-fits adds weighs =
     let low_same : length new.low.items ≡ length old.low.items = omega (arith, adds.low_room, new.low.ok.0, old.low.ok.0) in
@@ -58,7 +58,7 @@ Weighs-more g b n lower upper old new h lower-is upper-is lower-fits upper-fits 
     }
 
 -- an empty walk may have every edge: its bound is kept once
-pub adds_empty : (g : Graph) → IsNet g → (walk : List ℕ) (lower upper : ℕ) (old new : Sums) → walk ≡ [] → vec_len old.high ≡ edge_count g
+pub adds_empty : (g : Graph) → IsNet g → (walk : List ℕ) (lower upper : ℕ) (old new : Weights) → walk ≡ [] → vec_len old.high ≡ edge_count g
     → new ≡ record old { everywhere = old.everywhere + upper } → AddsWalk g walk lower upper old new
 adds_empty g net walk lower upper old new empty room is = subst (λ s. AddsWalk g walk lower upper old s) (sym is) (record {
   uppers = refl;
@@ -74,7 +74,7 @@ adds_empty g net walk lower upper old new empty room is = subst (λ s. AddsWalk 
 })
 
 -- the weights of all slots give the gap
-pub gap-from_weights : (i : Instance) (b : List Slot) (n m : ℕ) (s : Sums) → n ≡ length b → m ≡ edge_count i.graph → Weighs i.graph b n s → sum_below (outside s i.ranges) m ≡ gap i b
+pub gap-from_weights : (i : Instance) (b : List Slot) (n m : ℕ) (s : Weights) → n ≡ length b → m ≡ edge_count i.graph → Weighs i.graph b n s → sum_below (outside s i.ranges) m ≡ gap i b
 gap-from_weights i b n m s all edges weighs =
     let told = λ (e : ℕ). max (low_on b e - (range i e).hi) ((range i e).lo - high_on (paths i.graph) b e) in
     ap (sum_below (outside s i.ranges)) edges ∙ sum_below-same (outside s i.ranges) told (edge_count i.graph) (λ e l.
@@ -82,3 +82,7 @@ gap-from_weights i b n m s all edges weighs =
     let high : high_at s e ≡ high_on (paths i.graph) b e
     = weighs.high e (omega (arith, weighs.room.high, s.high.ok.0)) ∙ ap (sum_below (λ k. cond (may_have (paths i.graph) (slot_at b k).walk e) (upper_at b k) 0)) all in
     rw (low, high) refl)
+
+-- the weights of so few slots
+pub fewer : (n : ℕ) → n < 2 ^ 32 → (2 ^ 64 - 1) * n ≤ 2 ^ 96
+fewer n few = omega (arith, few)

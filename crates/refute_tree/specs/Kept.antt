@@ -5,14 +5,13 @@ use Rattle.decomposition.specs.Graph.{Graph, IsNet, edge_count, is_run}
 use Rattle.decomposition.specs.declared.Token.{Token}
 use Rattle.decomposition.specs.declared.Token.TheVariants.{Gap, Miss, Split, Step}
 use Rattle.decomposition.specs.Instance.{Instance}
-use Rattle.decomposition.specs.Boxes.{Slot, slot_at, gap, lower_at, upper_at}
+use Rattle.decomposition.specs.Boxes.{Slot, slot_at, lower_at, upper_at}
 use Rattle.decomposition.specs.Tokens.{next_edges}
 use Rattle.flow_models.specs.Problem.{instance}
 use Rattle.flow_models.specs.declared.problem.Problem.{Problem}
 use Rattle.refute_tree.specs.Front.{Boxes, closing, AreLeft}
 use Rattle.refute_tree.specs.OneBox.{place_of, boxes_of, IsOneBox}
-use Rattle.refute_tree.specs.Sums.{HasRoom, AreBounds}
-use Rattle.refute_tree.specs.declared.sums.Sums.{Sums}
+use Rattle.refute_tree.specs.Sums.{HasRoom, SumsUp}
 use Rattle.refute_tree.specs.declared.front.Front.TheInside.{Inside}
 
 -- what the fields stand for: where there is a first box, it and those that its choices have still to give
@@ -25,11 +24,6 @@ shown a = record {
   used = a.used;
   boxes = cond a.has_first (boxes_of a.net.now a.one) [];
 }
-
--- the sums are those of a box
-pub record SumsUp (i : Instance) (b : List Slot) (s : Sums) : Type 0 where
-  pub bounds : AreBounds b s
-  pub gap : s.gap ≡ gap i b
 
 -- a token may replace a box: one that closes it, a split between two bounds, or a step along an edge
 abbrev pub Replaces : Graph → List Slot → Token → Type 0

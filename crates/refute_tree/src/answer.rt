@@ -7,7 +7,7 @@ ghost use Rattle.refute_tree.specs.OneBox.{place_of};
 ghost use Rattle.refute_tree.specs.Sums.{AreBounds};
 
 use crate::one_box::OneBox;
-use crate::sums::Sums;
+use crate::sums::Weights;
 use dag_net::{Answer, Ids};
 use link_cells::Incidence;
 use std::alloc::{AllocError, Global};
@@ -41,7 +41,7 @@ fn spell(alloc: Global, links: &Incidence, slot: u32) -> Result<Ids, AllocError>
 }
 
 /// The walk of each slot of the box that may have weight, with its upper bound as the weight.
-pub fn first_paths(alloc: Global, one: &OneBox, sums: &Sums) -> Result<Answer, AllocError>
+pub fn first_paths(alloc: Global, one: &OneBox, sums: &Weights) -> Result<Answer, AllocError>
     requires slots { one.now.links.slots ≡ length one.now.ranges.items }
     requires few { length one.now.ranges.items < 2 ^ 32 }
     requires room { vec_len sums.now.uppers ≡ length one.now.ranges.items }

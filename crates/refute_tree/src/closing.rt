@@ -8,11 +8,11 @@ ghost use Rattle.decomposition.specs.Tokens.{is_above};
 ghost use Rattle.flow_models.specs.Problem.{instance};
 ghost use Rattle.refute_tree.specs.Front.{closing_token};
 ghost use Rattle.refute_tree.specs.OneBox.{place_of, IsOneBox};
-ghost use Rattle.refute_tree.specs.Kept.{SumsUp};
+ghost use Rattle.refute_tree.specs.Sums.{SumsUp};
 
 use crate::misses::may_contain;
 use crate::one_box::OneBox;
-use crate::sums::Sums;
+use crate::sums::Weights;
 use dag_net::Net;
 use decomposition::Token;
 use flow_models::Problem;
@@ -28,7 +28,7 @@ pub fn is_above(limit: Option<u64>, number: u128) -> bool
 }
 
 /// Whether no slot of the box of a weight that may be positive may contain the rule.
-pub fn is_missed(net: &Net, problem: &Problem, one: &OneBox, sums: &Sums, rule: u32) -> bool
+pub fn is_missed(net: &Net, problem: &Problem, one: &OneBox, sums: &Weights, rule: u32) -> bool
     requires rules { IsTrue (list_all (is_run net.now) problem.now.rules) }
     requires rule { rule < length problem.now.rules }
     requires kept { IsOneBox net.now one.now }
@@ -51,7 +51,7 @@ pub fn closing_token(
     problem: &Problem,
     limit: Option<u64>,
     one: &OneBox,
-    sums: &Sums,
+    sums: &Weights,
 ) -> Option<Token>
     requires rules { IsTrue (list_all (is_run net.now) problem.now.rules) }
     requires kept { IsOneBox net.now one.now }

@@ -3,9 +3,9 @@
 ghost use Rattle.std.specs.Prelude.{◌≡◌, ◌≢◌, ◌<◌, ◌≤◌, [], false, nat_lt, length, None, IfOk, IfSome, IsTrue};
 ghost use Rattle.std.specs.List.{list_all};
 ghost use Rattle.decomposition.specs.declared.Token.TheVariants.{Split, Step};
-ghost use Rattle.decomposition.specs.Graph.{edge_count, is_run};
+ghost use Rattle.decomposition.specs.Graph.{edge_count, is_run, paths};
 ghost use Rattle.decomposition.specs.Instance.{greatest_hi};
-ghost use Rattle.decomposition.specs.Boxes.{gap, misses, lower_at, upper_at};
+ghost use Rattle.decomposition.specs.Boxes.{gap, misses, low_on, high_on, lower_at, upper_at};
 ghost use Rattle.flow_models.specs.Problem.{instance};
 ghost use Rattle.refute_tree.specs.Front.{root_of, first_of, is_unfinished, may_branch, may_take, closing, Applies, AreLeft, IsFirstOpen, IsOpenAnswer, IsClosedOrNone, SettlesFront};
 
@@ -14,12 +14,21 @@ use crate::closing::{closing_token, is_above, is_missed};
 use crate::next::is_finished;
 use crate::one_box::OneBox;
 use crate::replacing::replace_first;
-use crate::sums::Sums;
+use crate::sums::Weights;
 use dag_net::{Answer, Net};
 use decomposition::{Decision, Token};
 use flow_models::Problem;
 use std::alloc::{AllocError, Global};
 use std::marker::Model;
+
+/// What the slots of the first box put on an edge.
+#[derive(Clone, Copy, Debug)]
+pub struct Sums {
+    /// The least weight: that of the slots whose walk has the edge.
+    pub low: u128,
+    /// The greatest weight: that of the slots whose walk may have the edge.
+    pub high: u128,
+}
 
 /// The list of boxes of a decision that no token has closed yet. Tokens are applied to the first of them.
 #[derive(Debug, Drop)]
@@ -31,7 +40,7 @@ pub struct Front<'a> {
     used: u32,
     has_first: bool,
     one: OneBox,
-    sums: Sums,
+    sums: Weights,
     closing: Option<Token>,
 }
 
@@ -62,7 +71,7 @@ impl<'a> Front<'a> {
         ensures { IfOk result (λ front. front ≡ root_of (instance net.now p.now) d.now tokens) }
     {
         let one = OneBox::of_root(alloc, net, d.slots, p.cap, tokens)?;
-        let mut sums = Sums::with_room(alloc, d.slots as usize, net.edges() as usize)?;
+        let mut sums = Weights::with_room(alloc, d.slots as usize, net.edges() as usize)?;
         sums.take(net, p, &one.links, &one.ranges);
         let closing = closing_token(net, p, d.limit, &one, &sums);
         Ok(Front {
@@ -104,6 +113,19 @@ impl<'a> Front<'a> {
         ensures { result ≡ gap self.now.instance (first_of self.now.boxes) }
     {
         self.sums.gap
+    }
+
+    /// The least and the greatest weight that the slots of the first box put on an edge.
+    pub fn sums(&self, edge: u32) -> Sums
+        requires some { self.now.boxes ≢ [] }
+        requires edge { edge < edge_count self.now.instance.graph }
+        ensures low { result.low ≡ low_on (first_of self.now.boxes) edge }
+        ensures high { result.high ≡ high_on (paths self.now.instance.graph) (first_of self.now.boxes) edge }
+    {
+        Sums {
+            low: self.sums.low_on(edge),
+            high: self.sums.high_on(edge),
+        }
     }
 
     /// Whether no slot of the first box of a weight that may be positive may contain the rule.

@@ -2,7 +2,7 @@
 #![tactic(auto)]
 
 pub use decomposition::{Decision, Token};
-pub use front::Front;
+pub use front::{Front, Sums};
 
 mod answer;
 mod choice;

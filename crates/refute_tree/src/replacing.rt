@@ -9,7 +9,7 @@ ghost use Rattle.refute_tree.specs.Sums.{AreBounds};
 
 use crate::next::first_next;
 use crate::one_box::OneBox;
-use crate::sums::Sums;
+use crate::sums::Weights;
 use dag_net::Net;
 use decomposition::Token;
 
@@ -23,7 +23,7 @@ fn middle(lower: u64, upper: u64) -> u64
 }
 
 /// Puts the boxes after a token in place of the first; false where no box is left.
-pub fn replace_first(net: &Net, sums: &Sums, one: &mut OneBox, token: Token) -> bool
+pub fn replace_first(net: &Net, sums: &Weights, one: &mut OneBox, token: Token) -> bool
     requires kept { IsOneBox net.now one.old }
     requires fits { Replaces net.now (place_of one.old).box token }
     requires lowers { vec_len sums.now.lowers ≡ length one.old.ranges.items }

@@ -1,15 +1,14 @@
 //! What the first box puts on slots and edges: the bounds of each slot, the least and the greatest weight on each edge, and the gap.
 
-ghost use Rattle.std.specs.Prelude.{◌≡◌, ◌<◌, ◌≤◌, ◌^◌, ◌*◌, ◌++◌, [], ◌∷◌, ℕ, List, length, vec_len, eqb, IfOk, IsTrue};
+ghost use Rattle.std.specs.Prelude.{◌≡◌, ◌<◌, ◌≤◌, ◌^◌, ◌*◌, ◌++◌, [], ◌∷◌, ℕ, List, length, slice_index, vec_len, eqb, IfOk, IsTrue};
 ghost use Rattle.std.specs.List.{IsDistinct};
 ghost use Rattle.decomposition.specs.Graph.{IsNet, edge_count, tail, has_edge};
 ghost use Rattle.decomposition.specs.Answer.{sum_below};
-ghost use Rattle.decomposition.specs.Boxes.{gap};
 ghost use Rattle.decomposition.specs.Reach.{reaches, IsBegun};
 ghost use Rattle.flow_models.specs.Problem.{instance};
 ghost use Rattle.link_cells.specs.Links.{walk_of};
 ghost use Rattle.refute_tree.specs.OneBox.{box_of, IsBoxBegun};
-ghost use Rattle.refute_tree.specs.Sums.{HasRoom, AreBounds, AreUppers, AreLowers, AddsWhere, AreWithin, AreSmall, AddsWalk, Weighs, outside};
+ghost use Rattle.refute_tree.specs.Sums.{HasRoom, AreBounds, AreUppers, AreLowers, AddsWhere, AreWithin, AreSmall, AddsWalk, Weighs, SumsUp, high_at, outside};
 
 use dag_net::{Net, Ranges};
 use decomposition::Range;
@@ -84,7 +83,7 @@ fn add_along(
 /// The bounds of each slot's weight, the least and the greatest weight on each edge, and the gap. What slots with an empty
 /// walk may put on every edge is kept once.
 #[derive(Debug, Drop)]
-pub struct Sums {
+pub struct Weights {
     pub uppers: Vec<u64>,
     pub lowers: Vec<u64>,
     low: Vec<u128>,
@@ -93,12 +92,12 @@ pub struct Sums {
     pub gap: u128,
 }
 
-impl Sums {
+impl Weights {
     /// Room for the sums of boxes of so many slots on so many edges.
-    pub fn with_room(alloc: Global, slots: usize, edges: usize) -> Result<Sums, AllocError>
+    pub fn with_room(alloc: Global, slots: usize, edges: usize) -> Result<Weights, AllocError>
         ensures { IfOk result (HasRoom slots edges) }
     {
-        Ok(Sums {
+        Ok(Weights {
             uppers: vec![in alloc; 0; slots]?,
             lowers: vec![in alloc; 0; slots]?,
             low: vec![in alloc; 0; edges]?,
@@ -106,6 +105,23 @@ impl Sums {
             everywhere: 0,
             gap: 0,
         })
+    }
+
+    /// The least weight kept for an edge.
+    pub fn low_on(&self, edge: u32) -> u128
+        requires edge { edge < vec_len self.now.low }
+        ensures { result ≡ slice_index self.now.low.items edge }
+    {
+        self.low[edge as usize]
+    }
+
+    /// The greatest weight kept for an edge.
+    pub fn high_on(&self, edge: u32) -> u128
+        requires edge { edge < vec_len self.now.high }
+        requires small { AreSmall (2 ^ 96) self.now }
+        ensures { result ≡ high_at self.now edge }
+    {
+        self.high[edge as usize] + self.everywhere
     }
 
     /// Takes the sums of a box.
@@ -116,8 +132,7 @@ impl Sums {
         requires ranged { length problem.now.ranges ≡ edge_count net.now }
         requires begun { IsBoxBegun net.now (box_of ranges.now links.now.links) }
         ensures room { HasRoom (length ranges.now) (edge_count net.now) self.new }
-        ensures bounds { AreBounds (box_of ranges.now links.now.links) self.new }
-        ensures gap { self.new.gap ≡ gap (instance net.now problem.now) (box_of ranges.now links.now.links) }
+        ensures sums { SumsUp (instance net.now problem.now) (box_of ranges.now links.now.links) self.new }
     {
         let edges = net.edges();
         set_uppers(&mut self.uppers, ranges);

@@ -1,12 +1,11 @@
 use Rattle.std.proofs.Common.{◌≡◌, ◌≢◌, ◌+◌, Bool, true, cond, [], length, true≢false, refl, sym, ap, subst, ◌∙◌, arith}
 use Rattle.decomposition.specs.Graph.{IsNet, edge_count}
-use Rattle.decomposition.specs.Boxes.{gap}
 use Rattle.decomposition.specs.Tokens.{is_legal, after_token}
 use Rattle.flow_models.specs.Problem.{instance}
 use Rattle.refute_tree.specs.Front.{Boxes, first_of, closing}
 use Rattle.refute_tree.specs.Kept.{shown, KeepsFirst, Replaces}
 use Rattle.refute_tree.specs.Choices.{waiting}
-use Rattle.refute_tree.specs.Sums.{HasRoom, AreBounds}
+use Rattle.refute_tree.specs.Sums.{HasRoom, SumsUp}
 use Rattle.refute_tree.specs.OneBox.{place_of, box_of, boxes_of, IsBoxBegun}
 use Rattle.refute_tree.proofs.Applied.{Came, came, gone, applies, kept-boxes, left_more}
 use Rattle.refute_tree.proofs.Fronts.{may_take-has, has-first, first-is, first-kept, closing-first}
@@ -114,10 +113,7 @@ invariant_of-self-2 c =
         cells = here.room ∙ old.cells;
         spent = omega (arith, here.few, old.spent);
         room = subst (λ rs. HasRoom (length rs) (edge_count a.net.now) c.take.new.self) c.deref.ensures.value c.take.ensures.room;
-        sums = record {
-          bounds = subst (λ rs. AreBounds (box_of rs new.links.links) c.take.new.self) c.deref.ensures.value c.take.ensures.bounds;
-          gap = subst (λ rs. c.take.new.self.gap ≡ gap i (box_of rs new.links.links)) c.deref.ensures.value c.take.ensures.gap;
-        };
+        sums = subst (λ rs. SumsUp i (box_of rs new.links.links) c.take.new.self) c.deref.ensures.value c.take.ensures.sums;
       };
       closing = closing-first (shown a) c.replace_first-self-inside.result (place_of new).box (waiting a.net.now (place_of new).box (place_of new).choices) c.closing_token-self-inside.result c.if-not-self.false c.closing_token-self-inside.ensures;
       left = left_more (shown a) _ c.args.token (boxes_of a.net.now new) c.self.invariant.left (ap (after_token i a.decision.limit c.args.token) (kept-boxes a (has b)) ∙ here.boxes)

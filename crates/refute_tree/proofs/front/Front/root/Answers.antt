@@ -1,11 +1,10 @@
 use Rattle.std.proofs.Common.{◌≡◌, ◌∷◌, [], Some, length, replicate, refl, ap, sym, subst, ◌∙◌, arith}
 use Rattle.std.proofs.lemmas.List.{length-reverse}
 use Rattle.decomposition.specs.Graph.{edge_count}
-use Rattle.decomposition.specs.Boxes.{gap}
 use Rattle.flow_models.specs.Problem.{instance}
 use Rattle.refute_tree.specs.Choices.{Place, stands_for}
 use Rattle.refute_tree.specs.OneBox.{box_of}
-use Rattle.refute_tree.specs.Sums.{HasRoom, AreBounds}
+use Rattle.refute_tree.specs.Sums.{HasRoom, SumsUp}
 use Rattle.refute_tree.proofs.front.Front.root.Goals as goal
 
 pub invariant_of-result : goal.invariant_of-result
@@ -23,10 +22,7 @@ invariant_of-result c =
         cells = c.in_ok-one.ensures.room;
         spent = omega (arith, ap (λ (p : Place). length p.choices) place, length-reverse one.choices.items);
         room = subst (λ rs. HasRoom (length rs) (edge_count g) c.take.new.self) c.deref.ensures.value c.take.ensures.room;
-        sums = record {
-          bounds = subst (λ rs. AreBounds (box_of rs one.links.links) c.take.new.self) c.deref.ensures.value c.take.ensures.bounds;
-          gap = subst (λ rs. c.take.new.self.gap ≡ gap i (box_of rs one.links.links)) c.deref.ensures.value c.take.ensures.gap;
-        };
+        sums = subst (λ rs. SumsUp i (box_of rs one.links.links) c.take.new.self) c.deref.ensures.value c.take.ensures.sums;
       };
       closing = c.closing_token-closing.ensures;
       left = record {

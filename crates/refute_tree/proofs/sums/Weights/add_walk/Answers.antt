@@ -9,8 +9,8 @@ use Rattle.refute_tree.specs.Sums.{AddsWhere}
 use Rattle.refute_tree.proofs.SumsAlong.{has_edge-end}
 use Rattle.refute_tree.proofs.SumsWeights.{within-along, within-more}
 use Rattle.refute_tree.proofs.SumsWalks.{begun-distinct, begun-inside, adds_may}
-use Rattle.refute_tree.proofs.sums.Sums.add_walk.Goals as goal
-use Rattle.refute_tree.proofs.sums.Sums.add_walk.Goals.{After-deref_mut-3}
+use Rattle.refute_tree.proofs.sums.Weights.add_walk.Goals as goal
+use Rattle.refute_tree.proofs.sums.Weights.add_walk.Goals.{After-deref_mut-3}
 
 pub head-end-requires : goal.head-end-requires
 head-end-requires c = begun-inside c.args.net.now _ c.requires.begun c.args.last (has_edge-end _ c.requires.last.0 c.args.last c.requires.last.1)

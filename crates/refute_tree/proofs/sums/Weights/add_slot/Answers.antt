@@ -1,7 +1,7 @@
 use Rattle.std.proofs.Common.{ℕ, ◌+◌, ap}
 use Rattle.link_cells.specs.Links.{walk_of}
 use Rattle.refute_tree.proofs.SumsSteps.{adds_empty}
-use Rattle.refute_tree.proofs.sums.Sums.add_slot.Goals as goal
+use Rattle.refute_tree.proofs.sums.Weights.add_slot.Goals as goal
 
 pub returns-in-None : goal.returns-in-None
 returns-in-None c =

@@ -8,7 +8,7 @@ use Rattle.refute_tree.specs.Sums.{AddsWalk}
 use Rattle.refute_tree.proofs.Placing.{walk_at}
 use Rattle.refute_tree.proofs.SumsBounds.{length-box}
 use Rattle.refute_tree.proofs.SumsSteps.{Weighs-more}
-use Rattle.refute_tree.proofs.sums.Sums.weigh.Goals as goal
+use Rattle.refute_tree.proofs.sums.Weights.weigh.Goals as goal
 
 pub add_slot-requires-clause-begun : goal.add_slot-requires-clause-begun
 add_slot-requires-clause-begun c =
