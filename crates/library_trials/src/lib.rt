@@ -30,6 +30,4 @@ mod said;
 #[cfg(test)]
 mod searches;
 #[cfg(test)]
-mod sums;
-#[cfg(test)]
 mod trees;
