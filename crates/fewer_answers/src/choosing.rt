@@ -2,7 +2,8 @@
 
 use crate::through::Through;
 use crate::walks::Walks;
-use flow_sweeps::{FlowNet, Means};
+use flow_kernels::FlowNet;
+use flow_sweeps::Means;
 use search_rooms::Pile;
 use std::alloc::{AllocError, Global};
 
@@ -55,6 +56,7 @@ fn draw_of(list: &[u32], means: &mut Means) -> u32 {
 }
 
 impl Chosen {
+    /// Room to choose of so many paths.
     pub fn with_room(alloc: Global, paths: usize) -> Result<Chosen, AllocError> {
         Ok(Chosen {
             paths: Pile::with_room(alloc, MOST_CHOSEN as usize)?,
@@ -62,14 +64,17 @@ impl Chosen {
         })
     }
 
+    /// How many paths are chosen.
     pub fn count(&self) -> u32 {
         self.paths.count()
     }
 
+    /// The chosen paths.
     pub fn paths(&self) -> &[u32] {
         self.paths.as_slice()
     }
 
+    /// The chosen path at a place.
     pub fn at(&self, i: u32) -> u32 {
         self.paths.at(i)
     }

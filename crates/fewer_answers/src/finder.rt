@@ -1,12 +1,12 @@
 //! Answers of fewer paths in the exact model: the kernel of the flow, sweeps over it, takings where it is dense, then neighbourhoods.
 
-use crate::kernels::Kernel;
 use crate::neighbours::Neighbours;
 use crate::starts::Starts;
 use crate::tastes::{TASTES, Taste};
 use crate::tools::Tools;
 use dag_net::{Answer, Net};
-use flow_sweeps::{How, Means, Paths};
+use flow_kernels::{Kernel, Paths};
+use flow_sweeps::{How, Means, Rooms};
 use search_rooms::{Chance, Purse};
 use std::alloc::{AllocError, Global};
 
@@ -42,9 +42,8 @@ pub struct Finder {
     tools: Tools,
     near: Neighbours,
     starts: Starts,
-    /// The best answer, over the kernel, and another one.
+    /// The best answer, over the kernel.
     best: Paths,
-    other: Paths,
     found: bool,
     is_begun: bool,
     /// How many takings were made, whether more may help, and whether one was better than all before.
@@ -63,13 +62,13 @@ impl Finder {
         purse: &mut Purse,
     ) -> Result<Finder, AllocError> {
         let kernel = Kernel::of(alloc, net, flow, purse)?;
-        let rooms = kernel.rooms(alloc)?;
+        let longest = kernel.net().longest(alloc)?;
+        let rooms = Rooms::of(kernel.net().vertices(), kernel.net().edges(), longest);
         Ok(Finder {
             tools: Tools::with_room(alloc, rooms)?,
             near: Neighbours::with_room(alloc, rooms)?,
             starts: Starts::with_room(alloc)?,
             best: Paths::with_room(alloc, rooms.pieces, rooms.links)?,
-            other: Paths::with_room(alloc, rooms.pieces, rooms.links)?,
             found: kernel.net().edges() == 0,
             kernel,
             is_begun: false,
@@ -158,7 +157,13 @@ impl Finder {
 
     /// The cut of the tools is that of a start: the antichain, or one along the order.
     fn cut_at(&mut self, start: u32) {
-        self.kernel.cut_at(start, &mut self.tools.cut);
+        if start == 0 {
+            self.kernel.write_antichain(&mut self.tools.cut);
+        } else {
+            let inner = self.kernel.net().vertices().saturating_sub(2);
+            let place = inner.saturating_mul(start) / Starts::ALL;
+            self.kernel.net().cut_before(place.saturating_add(1), &mut self.tools.cut);
+        }
     }
 
     /// A short sweep from each start, the first whatever work is left.
@@ -286,8 +291,7 @@ impl Finder {
         if self.sweep(how, means).is_none() {
             return;
         }
-        self.other.copy_from(self.tools.sweep.best());
-        if self.near.begin(self.kernel.net(), &self.other, means) {
+        if self.near.begin(self.kernel.net(), self.tools.sweep.best(), means) {
             self.near.run(self.kernel.net(), &mut self.tools, goal, means);
             if self.near.count() > 0 && self.near.count() < self.best.count() {
                 self.near.write(&mut self.best);

@@ -9,7 +9,6 @@ pub use finder::Finder;
 
 mod choosing;
 mod finder;
-mod kernels;
 mod neighbours;
 mod starts;
 mod sums;

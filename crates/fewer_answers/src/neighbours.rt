@@ -8,7 +8,8 @@ use crate::tastes::{TASTES, Taste};
 use crate::through::Through;
 use crate::tools::Tools;
 use crate::walks::Walks;
-use flow_sweeps::{FlowNet, How, Means, Paths, Rooms};
+use flow_kernels::{FlowNet, Paths};
+use flow_sweeps::{How, Means, Rooms};
 use search_rooms::Pile;
 use std::alloc::{AllocError, Global};
 
@@ -35,6 +36,7 @@ pub struct Neighbours {
 }
 
 impl Neighbours {
+    /// Room for trials over a kernel.
     pub fn with_room(alloc: Global, rooms: Rooms) -> Result<Neighbours, AllocError> {
         let walks = Walks::with_room(alloc, rooms.pieces, rooms.longest)?;
         let chosen = Chosen::with_room(alloc, walks.room_left())?;

@@ -20,19 +20,23 @@ impl Starts {
     /// The antichain, and so many cuts less one spread along the order.
     pub const ALL: u32 = 21;
 
+    /// Room for all starts.
     pub fn with_room(alloc: Global) -> Result<Starts, AllocError> {
         let all = Pile::with_room(alloc, Starts::ALL as usize)?;
         Ok(Starts { all })
     }
 
+    /// No start was tried.
     pub fn clear(&mut self) {
         self.all.clear();
     }
 
+    /// Notes how many paths came of a start.
     pub fn add(&mut self, number: u32, paths: u32) {
         self.all.push(Start { number, paths });
     }
 
+    /// How many starts were tried.
     pub fn count(&self) -> u32 {
         self.all.count()
     }

@@ -1,7 +1,8 @@
 //! The net of the sum of some paths, and its kernel.
 
 use crate::walks::Walks;
-use flow_sweeps::{Contraction, FlowNet, Means, Paths, Rooms};
+use flow_kernels::{Contraction, FlowNet, Paths};
+use flow_sweeps::{Means, Rooms};
 use search_rooms::{Amounts, NONE, Names, Pile, Purse};
 use std::alloc::{AllocError, Global};
 
@@ -22,6 +23,7 @@ pub struct Sum {
 }
 
 impl Sum {
+    /// Room for sums of paths of a kernel.
     pub fn with_room(alloc: Global, rooms: Rooms) -> Result<Sum, AllocError> {
         Ok(Sum {
             flow: Amounts::zeros(alloc, rooms.edges)?,

@@ -2,7 +2,8 @@
 //! path empties most edges and leaves most numbers that other edges have too, the heavier the better; or simply the widest path.
 
 use crate::tastes::Taste;
-use flow_sweeps::{FlowNet, Means, Paths, Rooms, Votes};
+use flow_kernels::{FlowNet, Paths};
+use flow_sweeps::{Means, Rooms, Votes};
 use search_rooms::{Amounts, NONE, Names, Pile};
 use std::alloc::{AllocError, Global};
 
@@ -45,6 +46,7 @@ pub struct Takings {
 }
 
 impl Takings {
+    /// Room for takings.
     pub fn with_room(alloc: Global, rooms: Rooms) -> Result<Takings, AllocError> {
         let edges = rooms.edges as usize;
         let paths = rooms.edges.saturating_add(2);

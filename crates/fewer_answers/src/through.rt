@@ -16,6 +16,7 @@ pub struct Through {
 }
 
 impl Through {
+    /// Room for so many vertices.
     pub fn with_room(alloc: Global, vertices: u32) -> Result<Through, AllocError> {
         Ok(Through {
             room: 1,

@@ -1,7 +1,8 @@
 //! What makes answers of a net: a widest cut or another one, sweeps from it, and takings.
 
 use crate::takings::Takings;
-use flow_sweeps::{Cover, FlowNet, How, Means, Rooms, Sweep};
+use flow_kernels::{Cover, FlowNet};
+use flow_sweeps::{How, Means, Rooms, Sweep};
 use search_rooms::Pile;
 use std::alloc::{AllocError, Global};
 
@@ -15,6 +16,7 @@ pub struct Tools {
 }
 
 impl Tools {
+    /// Room for searches over a kernel.
     pub fn with_room(alloc: Global, rooms: Rooms) -> Result<Tools, AllocError> {
         Ok(Tools {
             cover: Cover::with_room(alloc, rooms.vertices, rooms.edges)?,

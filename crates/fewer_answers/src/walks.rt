@@ -1,6 +1,6 @@
 //! The paths of an answer, each in a room of its own, so that one can take the place of another.
 
-use flow_sweeps::Paths;
+use flow_kernels::Paths;
 use search_rooms::{Names, Pile};
 use std::alloc::{AllocError, Global};
 
@@ -29,11 +29,13 @@ impl Walks {
         })
     }
 
+    /// No paths.
     pub fn clear(&mut self) {
         self.lengths.clear();
         self.weights.clear();
     }
 
+    /// How many paths there are.
     pub fn count(&self) -> u32 {
         self.weights.count()
     }
@@ -53,10 +55,12 @@ impl Walks {
         self.edges.part(begin, begin.saturating_add(self.lengths.at(path)))
     }
 
+    /// The weight of a path.
     pub fn weight(&self, path: u32) -> u64 {
         self.weights.at(path)
     }
 
+    /// The weights of all paths.
     pub fn weights(&self) -> &[u64] {
         self.weights.as_slice()
     }

@@ -1,12 +1,11 @@
 //! One half of a sweep: pieces of the flow that start at a cut are shared out vertex by vertex, on to the sink or back to the source.
 
-use crate::flow_net::FlowNet;
 use crate::loads::Load;
 use crate::means::Means;
-use crate::paths::Paths;
 use crate::pieces::Pieces;
 use crate::rooms::Rooms;
 use crate::shares::Shares;
+use flow_kernels::{FlowNet, Paths};
 use search_rooms::{NONE, Names, Pile};
 use std::alloc::{AllocError, Global};
 
@@ -20,6 +19,7 @@ pub struct Half {
 }
 
 impl Half {
+    /// Room for the pieces of a half.
     pub fn with_room(alloc: Global, rooms: Rooms, forward: bool) -> Result<Half, AllocError> {
         Ok(Half {
             forward,
@@ -27,10 +27,6 @@ impl Half {
             firsts: Names::nones(alloc, rooms.vertices.max(rooms.parts))?,
             next: Names::nones(alloc, rooms.pieces)?,
         })
-    }
-
-    pub fn pieces(&self) -> &Pieces {
-        &self.pieces
     }
 
     /// The vertex to which an edge leads in this half.

@@ -1,6 +1,6 @@
 //! Pieces of the flow: each has a weight, an initial part that it comes of, and a walk, which pieces of one part may share.
 
-use crate::paths::Paths;
+use flow_kernels::Paths;
 use search_rooms::{NONE, Pile};
 use std::alloc::{AllocError, Global};
 
@@ -32,6 +32,7 @@ impl Pieces {
         })
     }
 
+    /// No pieces.
     pub fn clear(&mut self) {
         self.weights.clear();
         self.roots.clear();
@@ -49,6 +50,7 @@ impl Pieces {
         self.links.room_left() >= links && !self.weights.is_full()
     }
 
+    /// The weight of a piece.
     pub fn weight(&self, piece: u32) -> u64 {
         self.weights.at(piece)
     }

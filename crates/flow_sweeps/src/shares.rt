@@ -1,13 +1,14 @@
 //! Shares: parts of given weights are put into bins of given flows, exactly where that is possible; else parts are cut in two.
 //!
-//! Where to cut is voted for: a good cut leaves two numbers that are the flows of many edges.
+//! Where to cut is voted for: a good cut leaves two numbers that are the flows of many edges. Where looking for cuts has cost too much,
+//! the parts are poured into the bins as they come.
 
 use crate::exact_shares::ExactShare;
 use crate::loads::{Cut, Given, Load};
 use crate::means::Means;
 use crate::pieces::Pieces;
 use crate::votes::Votes;
-use search_rooms::{NONE, Pile};
+use search_rooms::{NONE, Pile, Purse};
 use std::alloc::{AllocError, Global};
 
 /// The score of a bin that whole parts fill, and what a cut gains where no other part goes with it. Noise adds less than so much.
@@ -16,6 +17,9 @@ const WHOLE: u32 = 27;
 const ALONE: u32 = 3;
 
 const NOISE: u32 = 6;
+
+/// An answer may cost so many visits before the parts are poured.
+const PATIENCE: u64 = 16777216;
 
 /// Which part is cut for which bin, to what weight, and which other part goes with it, or none.
 #[derive(Clone, Copy)]
@@ -45,6 +49,8 @@ pub struct Shares {
     given: Pile<Given>,
     cuts: Pile<Cut>,
     exact: ExactShare,
+    /// What looking for cuts may still cost for the present answer.
+    patience: Purse,
 }
 
 impl Shares {
@@ -59,6 +65,7 @@ impl Shares {
             given: Pile::with_room(alloc, room)?,
             cuts: Pile::with_room(alloc, room)?,
             exact: ExactShare::with_room(alloc, parts)?,
+            patience: Purse::of(PATIENCE),
         })
     }
 
@@ -68,6 +75,17 @@ impl Shares {
         self.noise = noise;
     }
 
+    /// Another answer is made: no cut was made, and none was looked for.
+    pub fn begin_answer(&mut self) {
+        self.cuts.clear();
+        self.patience = Purse::of(PATIENCE);
+    }
+
+    fn spend(&mut self, visits: u32, means: &mut Means) {
+        means.spend(visits);
+        self.patience.spend(u64::from(visits));
+    }
+
     /// No parts and no bins.
     pub fn clear(&mut self) {
         self.parts.clear();
@@ -75,6 +93,7 @@ impl Shares {
         self.given.clear();
     }
 
+    /// Adds a piece that is to be shared out.
     pub fn add_part(&mut self, weight: u64, piece: u32) {
         self.parts.push(Load {
             weight,
@@ -82,6 +101,7 @@ impl Shares {
         });
     }
 
+    /// Adds a bin that is to be filled.
     pub fn add_bin(&mut self, weight: u64, name: u32) {
         self.bins.push(Load { weight, name });
     }
@@ -91,7 +111,7 @@ impl Shares {
         self.given.as_slice()
     }
 
-    /// The cuts that were made since they were forgotten.
+    /// The cuts that were made for the present answer.
     pub fn cuts(&mut self) -> &mut Pile<Cut> {
         &mut self.cuts
     }
@@ -109,6 +129,10 @@ impl Shares {
                 break;
             }
             self.order_parts();
+            if self.patience.is_spent() {
+                self.pour(pieces);
+                return;
+            }
             if self.parts.count() >= self.bins.count() && self.share_exactly(means) {
                 return;
             }
@@ -146,9 +170,54 @@ impl Shares {
         parts.sort_unstable_by(|a, b| b.weight.cmp(&a.weight).then(a.name.cmp(&b.name)));
     }
 
+    /// Fills bin after bin with the parts as they come; a part that is too great for what its bin lacks is cut.
+    fn pour(&mut self, pieces: &mut Pieces) {
+        let last = self.bins.count().saturating_sub(1);
+        let mut place = 0u32;
+        for _ in 0..self.most_turns() {
+            let Some(part) = self.parts.pop() else {
+                break;
+            };
+            let bin = self.bins.at(place);
+            if place >= last || part.weight <= bin.weight {
+                self.pour_whole(place, part);
+            } else {
+                self.pour_some(place, part, pieces);
+                place = place.saturating_add(1);
+            }
+        }
+    }
+
+    /// The part goes into the bin, which lacks so much less.
+    fn pour_whole(&mut self, place: u32, part: Load) {
+        let bin = self.bins.at(place);
+        let weight = bin.weight.saturating_sub(part.weight);
+        self.bins.put(place, Load { weight, ..bin });
+        self.given.push(Given {
+            bin: bin.name,
+            piece: part.name,
+        });
+    }
+
+    /// The bin takes of the part what it lacks.
+    fn pour_some(&mut self, place: u32, part: Load, pieces: &mut Pieces) {
+        let bin = self.bins.at(place);
+        if bin.weight == 0 {
+            self.parts.push(part);
+            return;
+        }
+        let off = part.weight.saturating_sub(bin.weight);
+        let new = pieces.cut(part.name, off);
+        self.given.push(Given {
+            bin: bin.name,
+            piece: part.name,
+        });
+        self.add_part(off, new);
+    }
+
     fn share_exactly(&mut self, means: &mut Means) -> bool {
         let (found, steps) = self.exact.find(self.parts.as_slice(), self.bins.as_slice());
-        means.spend(steps);
+        self.spend(steps, means);
         if found {
             self.write_share();
         }
@@ -171,7 +240,8 @@ impl Shares {
 
     /// One bin is filled, by one part if that is possible, else by the best cut; or the greatest part goes into the widest bin.
     fn fill_one(&mut self, pieces: &mut Pieces, means: &mut Means) {
-        means.spend(self.parts.count().saturating_mul(self.bins.count()));
+        let looks = self.parts.count().saturating_mul(self.bins.count());
+        self.spend(looks, means);
         if let Some((bin, part)) = self.filled_by_one() {
             self.put_into(bin, part);
             self.bins.take_out(bin);
@@ -263,7 +333,7 @@ impl Shares {
     }
 
     /// The cut of the greatest score, for any bin, alone or beside one other part.
-    fn best_cut(&self, means: &mut Means) -> Option<Choice> {
+    fn best_cut(&mut self, means: &mut Means) -> Option<Choice> {
         let mut best = None;
         for bin in 0..self.bins.count() {
             let flow = self.bins.at(bin).weight;
@@ -278,9 +348,9 @@ impl Shares {
         best
     }
 
-    /// The same for one bin beside each other part.
+    /// The same for one bin beside each other part, as long as there is patience.
     fn best_beside(
-        &self,
+        &mut self,
         bin: u32,
         flow: u64,
         best: Option<Choice>,
@@ -289,6 +359,9 @@ impl Shares {
         let mut best = best;
         let mut before = 0u64;
         for with in 0..self.parts.count() {
+            if self.patience.is_spent() {
+                break;
+            }
             let weight = self.parts.at(with).weight;
             if weight < flow && weight != before {
                 let lacks = flow.saturating_sub(weight);
@@ -300,7 +373,12 @@ impl Shares {
     }
 
     /// The same for what one bin lacks. The parts are sorted: those that are great enough come first, equal ones side by side.
-    fn best_for(&self, wanted: Wanted, best: Option<Choice>, means: &mut Means) -> Option<Choice> {
+    fn best_for(
+        &mut self,
+        wanted: Wanted,
+        best: Option<Choice>,
+        means: &mut Means,
+    ) -> Option<Choice> {
         let bits = self.votes.bits(wanted.lacks);
         let mut best = best;
         let mut before = 0u64;
@@ -318,7 +396,7 @@ impl Shares {
             }
             part = part.saturating_add(1);
         }
-        means.spend(looks);
+        self.spend(looks, means);
         best
     }
 

@@ -3,13 +3,12 @@
 //!
 //! A cut that was made under way may be made at the start instead, so that both halves know it; it stays where that costs no path.
 
-use crate::flow_net::FlowNet;
 use crate::halves::Half;
 use crate::loads::{Cut, Load};
 use crate::means::Means;
-use crate::paths::Paths;
 use crate::rooms::{MOST_ROUNDS, Rooms};
 use crate::shares::Shares;
+use flow_kernels::{FlowNet, Paths};
 use search_rooms::Pile;
 use std::alloc::{AllocError, Global};
 use std::mem;
@@ -49,6 +48,7 @@ pub struct Sweep {
 }
 
 impl Sweep {
+    /// Room for sweeps.
     pub fn with_room(alloc: Global, rooms: Rooms) -> Result<Sweep, AllocError> {
         let pieces = rooms.pieces as usize;
         Ok(Sweep {
@@ -180,7 +180,7 @@ impl Sweep {
 
     /// Both halves and their pieces joined, if there are at most so many of them.
     fn both(&mut self, net: &FlowNet, most: u32, means: &mut Means) -> bool {
-        self.shares.cuts().clear();
+        self.shares.begin_answer();
         self.attempt.clear();
         let parts = self.parts.as_slice();
         if !self.on.run(net, parts, most, &mut self.shares, means) {

@@ -1,8 +1,11 @@
 //! The kernel of a flow, where answers start in it, and what its paths are in the net.
 
-use crate::starts::Starts;
+use crate::contraction::Contraction;
+use crate::cuts::Cover;
+use crate::flow_net::FlowNet;
+use crate::paths::Paths;
+use crate::whole::Whole;
 use dag_net::{Answer, Ids, Net};
-use flow_sweeps::{Contraction, Cover, FlowNet, Paths, Rooms, Whole};
 use search_rooms::{NONE, Pile, Purse, View};
 use std::alloc::{AllocError, Global};
 
@@ -46,12 +49,6 @@ impl Kernel {
         })
     }
 
-    /// How much room searches over the kernel ask for.
-    pub fn rooms(&self, alloc: Global) -> Result<Rooms, AllocError> {
-        let longest = self.net.longest(alloc)?;
-        Ok(Rooms::of(self.net.vertices(), self.net.edges(), longest))
-    }
-
     pub fn net(&self) -> &FlowNet {
         &self.net
     }
@@ -66,15 +63,9 @@ impl Kernel {
         lower.saturating_sub(self.direct()).max(self.antichain.count())
     }
 
-    /// Writes the cut of a start: the antichain, or one along the order.
-    pub fn cut_at(&self, start: u32, cut: &mut Pile<u32>) {
-        if start == 0 {
-            cut.copy_from(&self.antichain);
-        } else {
-            let inner = self.net.vertices().saturating_sub(2);
-            let place = inner.saturating_mul(start) / Starts::ALL;
-            self.net.cut_before(place.saturating_add(1), cut);
-        }
+    /// Writes the widest antichain.
+    pub fn write_antichain(&self, cut: &mut Pile<u32>) {
+        cut.copy_from(&self.antichain);
     }
 
     /// The answer of the net that paths of the kernel stand for.
