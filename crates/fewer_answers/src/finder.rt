@@ -162,7 +162,9 @@ impl Finder {
         } else {
             let inner = self.kernel.net().vertices().saturating_sub(2);
             let place = inner.saturating_mul(start) / Starts::ALL;
-            self.kernel.net().cut_before(place.saturating_add(1), &mut self.tools.cut);
+            self.kernel
+                .net()
+                .cut_before(place.saturating_add(1), &mut self.tools.cut);
         }
     }
 
@@ -234,7 +236,10 @@ impl Finder {
             Taste::by_lot(means.draw(TASTES))
         };
         let most = self.best.count().saturating_mul(HALVES) / 2;
-        let made = self.tools.takings.run(self.kernel.net(), most, taste, means);
+        let made = self
+            .tools
+            .takings
+            .run(self.kernel.net(), most, taste, means);
         if made && self.tools.takings.best().count() < self.best.count() {
             self.best.copy_from(self.tools.takings.best());
             self.is_dense = true;
@@ -256,7 +261,8 @@ impl Finder {
         if self.is_dense {
             self.take_turns(goal, means);
         }
-        self.near.run(self.kernel.net(), &mut self.tools, goal, means);
+        self.near
+            .run(self.kernel.net(), &mut self.tools, goal, means);
         self.near.write(&mut self.best);
     }
 
@@ -265,10 +271,12 @@ impl Finder {
         for turn in (0..TURNS).rev() {
             let twice = turn.saturating_mul(2);
             let mut part = means.lend(means.purse.left() / twice.saturating_add(2));
-            self.near.run_light(self.kernel.net(), &mut self.tools, goal, &mut part);
+            self.near
+                .run_light(self.kernel.net(), &mut self.tools, goal, &mut part);
             means.settle(part);
             let mut part = means.lend(means.purse.left() / twice.saturating_add(1));
-            self.near.run(self.kernel.net(), &mut self.tools, goal, &mut part);
+            self.near
+                .run(self.kernel.net(), &mut self.tools, goal, &mut part);
             means.settle(part);
         }
     }
@@ -291,8 +299,12 @@ impl Finder {
         if self.sweep(how, means).is_none() {
             return;
         }
-        if self.near.begin(self.kernel.net(), self.tools.sweep.best(), means) {
-            self.near.run(self.kernel.net(), &mut self.tools, goal, means);
+        if self
+            .near
+            .begin(self.kernel.net(), self.tools.sweep.best(), means)
+        {
+            self.near
+                .run(self.kernel.net(), &mut self.tools, goal, means);
             if self.near.count() > 0 && self.near.count() < self.best.count() {
                 self.near.write(&mut self.best);
             }

@@ -78,7 +78,8 @@ impl Neighbours {
             self.chosen.meeting(net, &self.walks, &self.through, means);
             means.spend(TRIAL);
             if self.chosen.count() > 1 {
-                self.sum.add_up(net, &self.walks, self.chosen.paths(), means);
+                self.sum
+                    .add_up(net, &self.walks, self.chosen.paths(), means);
                 if self.decompose(tools, means) {
                     self.sum.lift(tools.sweep.best(), &mut self.lifted);
                     self.replace(net, means);
@@ -98,7 +99,8 @@ impl Neighbours {
             let chosen = self.chosen.count();
             means.spend(chosen.saturating_mul(chosen).saturating_add(TRIAL));
             if chosen > 1 {
-                self.sum.add_up(net, &self.walks, self.chosen.paths(), means);
+                self.sum
+                    .add_up(net, &self.walks, self.chosen.paths(), means);
                 if self.decompose_light(tools, means) {
                     self.sum.lift(tools.takings.best(), &mut self.lifted);
                     self.replace(net, means);

@@ -70,7 +70,8 @@ impl Sum {
         self.write(net);
         means.spend(self.edges.count().saturating_mul(EDGE));
         let mut paid = Purse::of(0);
-        self.contraction.contract(&self.net, &mut self.kernel, &mut paid);
+        self.contraction
+            .contract(&self.net, &mut self.kernel, &mut paid);
     }
 
     /// Adds a weight on an edge.

@@ -179,7 +179,11 @@ impl Takings {
         for &weight in self.votes.values() {
             next = self.first_before(next, weight);
             let before = self.before.at(next);
-            let counts = if before.weight == weight { before.counts } else { u64::MAX };
+            let counts = if before.weight == weight {
+                before.counts
+            } else {
+                u64::MAX
+            };
             self.known.push(Known { weight, counts });
         }
     }
@@ -206,7 +210,10 @@ impl Takings {
         }
         let ranked = self.ranked.as_mut_slice();
         ranked.sort_unstable_by(|a, b| {
-            b.known.counts.cmp(&a.known.counts).then(b.known.weight.cmp(&a.known.weight))
+            b.known
+                .counts
+                .cmp(&a.known.counts)
+                .then(b.known.weight.cmp(&a.known.weight))
         });
     }
 

@@ -34,14 +34,20 @@ impl Through {
     /// The known paths through a vertex.
     pub fn of(&self, v: u32) -> &[u32] {
         let begin = v.saturating_mul(self.room);
-        self.paths.part(begin, begin.saturating_add(self.counts.at(v)))
+        self.paths
+            .part(begin, begin.saturating_add(self.counts.at(v)))
     }
 
     /// Notes a path, in the place of another where the room is used up.
     pub fn enter(&mut self, v: u32, path: u32, means: &mut Means) {
         let count = self.counts.at(v);
-        let place = if count < self.room { count } else { means.draw(self.room) };
-        self.paths.put(v.saturating_mul(self.room).saturating_add(place), path);
+        let place = if count < self.room {
+            count
+        } else {
+            means.draw(self.room)
+        };
+        self.paths
+            .put(v.saturating_mul(self.room).saturating_add(place), path);
         self.counts.put(v, count.saturating_add(1).min(self.room));
     }
 

@@ -52,7 +52,8 @@ impl Walks {
     /// The edges of a path.
     pub fn path(&self, path: u32) -> &[u32] {
         let begin = self.begin(path);
-        self.edges.part(begin, begin.saturating_add(self.lengths.at(path)))
+        self.edges
+            .part(begin, begin.saturating_add(self.lengths.at(path)))
     }
 
     /// The weight of a path.

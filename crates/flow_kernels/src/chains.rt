@@ -13,6 +13,7 @@ pub struct Chains {
 }
 
 impl Chains {
+    /// Room for so many vertices and edges.
     pub fn with_room(alloc: Global, vertices: u32, edges: u32) -> Result<Chains, AllocError> {
         Ok(Chains {
             firsts: Names::nones(alloc, vertices)?,

@@ -100,24 +100,29 @@ impl FlowNet {
         self.entering.sort(self.vertices, self.heads.as_slice());
     }
 
+    /// The number of vertices.
     pub fn vertices(&self) -> u32 {
         self.vertices
     }
 
+    /// The number of edges.
     pub fn edges(&self) -> u32 {
         self.flow.count()
     }
 
+    /// The vertex that an edge leaves.
     #[inline(always)]
     pub fn tail(&self, e: u32) -> u32 {
         self.tails.at(e)
     }
 
+    /// The vertex that an edge enters.
     #[inline(always)]
     pub fn head(&self, e: u32) -> u32 {
         self.heads.at(e)
     }
 
+    /// The flow of an edge.
     #[inline(always)]
     pub fn flow(&self, e: u32) -> u64 {
         self.flow.at(e)

@@ -49,6 +49,7 @@ impl Kernel {
         })
     }
 
+    /// The kernel itself.
     pub fn net(&self) -> &FlowNet {
         &self.net
     }

@@ -21,6 +21,7 @@ impl Paths {
         })
     }
 
+    /// No paths.
     pub fn clear(&mut self) {
         self.edges.clear();
         self.ends.clear();

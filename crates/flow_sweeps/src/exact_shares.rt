@@ -81,7 +81,11 @@ impl ExactShare {
             turn.part = 0;
             turn.lacks = weight_at(bins, turn.bin);
             let after = turn.bin.saturating_add(1);
-            return if after as usize >= bins.len() { Some(true) } else { None };
+            return if after as usize >= bins.len() {
+                Some(true)
+            } else {
+                None
+            };
         }
         let part = self.next_free(parts, turn.part, turn.lacks);
         if (part as usize) < parts.len() {
@@ -91,7 +95,11 @@ impl ExactShare {
             turn.part = part.saturating_add(1);
             return None;
         }
-        if self.give_back(parts, turn) { None } else { Some(false) }
+        if self.give_back(parts, turn) {
+            None
+        } else {
+            Some(false)
+        }
     }
 
     /// Leaves out the part that was taken last; false where there is none.

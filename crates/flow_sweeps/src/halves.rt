@@ -31,7 +31,11 @@ impl Half {
 
     /// The vertex to which an edge leads in this half.
     fn end(&self, net: &FlowNet, e: u32) -> u32 {
-        if self.forward { net.head(e) } else { net.tail(e) }
+        if self.forward {
+            net.head(e)
+        } else {
+            net.tail(e)
+        }
     }
 
     /// All pieces go from their parts, each an edge and a weight, to the end of the net. False where there are more than so many
@@ -80,7 +84,11 @@ impl Half {
         shares: &mut Shares,
         means: &mut Means,
     ) -> bool {
-        let edges = if self.forward { net.out(v) } else { net.into(v) };
+        let edges = if self.forward {
+            net.out(v)
+        } else {
+            net.into(v)
+        };
         if edges.is_empty() {
             return true;
         }

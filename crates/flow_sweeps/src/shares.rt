@@ -148,7 +148,10 @@ impl Shares {
     }
 
     fn most_turns(&self) -> u32 {
-        self.bins.count().saturating_mul(2).saturating_add(self.parts.count())
+        self.bins
+            .count()
+            .saturating_mul(2)
+            .saturating_add(self.parts.count())
     }
 
     /// Bins by rising flow, or by lot.
@@ -309,7 +312,11 @@ impl Shares {
         let mut place = 0u32;
         for part in self.parts.as_slice() {
             if part.weight <= weight {
-                return if part.weight == weight { Some(place) } else { None };
+                return if part.weight == weight {
+                    Some(place)
+                } else {
+                    None
+                };
             }
             place = place.saturating_add(1);
         }
@@ -406,7 +413,11 @@ impl Shares {
         if weight > wanted.lacks {
             let rest = self.votes.bits(weight.saturating_sub(wanted.lacks));
             let sum = bits.saturating_add(rest).saturating_mul(2);
-            score = if wanted.with == NONE { sum.saturating_add(ALONE) } else { sum };
+            score = if wanted.with == NONE {
+                sum.saturating_add(ALONE)
+            } else {
+                sum
+            };
         }
         if self.noise {
             score = score.saturating_add(means.draw(NOISE));
