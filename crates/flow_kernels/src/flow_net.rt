@@ -22,7 +22,8 @@ impl Side {
 
     #[inline(always)]
     fn of(&self, v: u32) -> &[u32] {
-        self.list.part(self.begins.at(v), self.begins.at(v.saturating_add(1)))
+        self.list
+            .part(self.begins.at(v), self.begins.at(v.saturating_add(1)))
     }
 
     /// Counts the edges of each vertex, two places further on, and sums the counts up.

@@ -61,7 +61,9 @@ impl Kernel {
 
     /// So many paths of the kernel are as few as are wanted.
     pub fn goal(&self, lower: u32) -> u32 {
-        lower.saturating_sub(self.direct()).max(self.antichain.count())
+        lower
+            .saturating_sub(self.direct())
+            .max(self.antichain.count())
     }
 
     /// Writes the widest antichain.
@@ -82,7 +84,9 @@ impl Kernel {
         }
         for i in 0..self.direct() {
             self.lifted.clear();
-            let weight = self.contraction.spell_direct(&self.whole.net, i, &mut self.lifted);
+            let weight = self
+                .contraction
+                .spell_direct(&self.whole.net, i, &mut self.lifted);
             self.lifted.end(weight);
             self.write(alloc, &mut answer)?;
         }
