@@ -1,7 +1,8 @@
 //! The net, and for each vertex the set of the edges that a walk may still take which ends there. Made once, for all decisions.
 //!
-//! A set has one bit for each edge, so the edges that a step loses are those of one set that are not in the other.
+//! As these are sets of bits, the edges that a step loses are those of one set that are not in the other.
 
+use crate::sets::EdgeSets;
 use dag_net::Net;
 use search_rooms::{Names, View};
 use std::alloc::{AllocError, Global};
@@ -10,54 +11,41 @@ use std::alloc::{AllocError, Global};
 #[derive(Drop)]
 pub struct Ground<'a> {
     view: View<'a>,
-    /// One set for each vertex side by side, and last the set of all edges, for the empty walk.
-    words: Vec<u64>,
-    /// So many words are one set.
-    wide: usize,
+    /// One set for each vertex, and last the set of all edges, for the empty walk.
+    ahead: EdgeSets,
     counts: Names,
+}
+
+/// Marks the edges ahead of each vertex, the last one of the order first: those that leave it, and those ahead of their heads.
+fn fill(view: &View, ahead: &mut EdgeSets) {
+    for place in (0..view.vertices()).rev() {
+        let v = view.vertex_at(place);
+        for &e in view.out(v) {
+            ahead.put(v, e);
+            ahead.add_all(v, view.head(e));
+        }
+    }
+    for e in 0..view.edges() {
+        ahead.put(view.vertices(), e);
+    }
 }
 
 impl<'a> Ground<'a> {
     /// The net with the edges ahead of each of its vertices.
     pub fn of(alloc: Global, net: &'a Net) -> Result<Ground<'a>, AllocError> {
         let view = View::of(alloc, net)?;
-        let wide = view.edges() as usize / 64 + 1;
-        let sets = view.vertices() as usize + 1;
-        let mut ground = Ground {
-            words: vec![in alloc; 0; sets * wide]?,
-            wide,
-            counts: Names::nones(alloc, view.vertices().saturating_add(1))?,
+        let sets = view.vertices().saturating_add(1);
+        let mut ahead = EdgeSets::empty(alloc, sets, view.edges())?;
+        fill(&view, &mut ahead);
+        let mut counts = Names::nones(alloc, sets)?;
+        for set in 0..sets {
+            counts.put(set, ahead.count(set));
+        }
+        Ok(Ground {
             view,
-        };
-        ground.fill();
-        Ok(ground)
-    }
-
-    /// Marks the edges ahead.
-    fn fill(&mut self) {
-        for v in 0..self.view.vertices() {
-            let mut count = 0u32;
-            for e in 0..self.view.edges() {
-                if self.view.reaches(v, self.view.tail(e)) {
-                    count = count.saturating_add(1);
-                    self.mark(v, e);
-                }
-            }
-            self.counts.put(v, count);
-        }
-        let all = self.view.vertices();
-        for e in 0..self.view.edges() {
-            self.mark(all, e);
-        }
-        self.counts.put(all, self.view.edges());
-    }
-
-    /// Puts an edge into a set.
-    fn mark(&mut self, set: u32, e: u32) {
-        let at = (set as usize).saturating_mul(self.wide).saturating_add(e as usize / 64);
-        if at < self.words.len() {
-            self.words[at] |= 1 << (e % 64);
-        }
+            ahead,
+            counts,
+        })
     }
 
     /// The net.
@@ -67,14 +55,7 @@ impl<'a> Ground<'a> {
 
     /// The edges that a walk may still take which ends at the vertex, or all where it is none.
     pub fn ahead(&self, end: u32) -> &[u64] {
-        let set = end.min(self.view.vertices()) as usize;
-        let from = set.saturating_mul(self.wide);
-        let to = from.saturating_add(self.wide);
-        if from <= to && to <= self.words.len() {
-            &self.words[from..to]
-        } else {
-            &[]
-        }
+        self.ahead.words(end.min(self.view.vertices()))
     }
 
     /// How many edges that are.

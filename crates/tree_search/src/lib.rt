@@ -12,5 +12,6 @@ mod engine;
 mod frames;
 mod ground;
 mod loads;
+mod sets;
 mod tape;
 mod walks;
