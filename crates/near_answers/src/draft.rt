@@ -44,13 +44,18 @@ impl<'a> Draft<'a> {
     pub fn sum_up(&mut self) {
         self.spans.clear();
         for i in 0..self.paths.count() {
-            self.spans.add_along(self.paths.path(i), self.paths.weight(i));
+            self.spans
+                .add_along(self.paths.path(i), self.paths.weight(i));
         }
     }
 
     /// The run of a rule, or an empty one.
     fn run(&self, rule: u32) -> &'a [u32] {
-        if rule < self.problem.rules.len() { self.problem.rules.run(rule) } else { &[] }
+        if rule < self.problem.rules.len() {
+            self.problem.rules.run(rule)
+        } else {
+            &[]
+        }
     }
 
     /// Whether some path but one contains a run.

@@ -30,7 +30,11 @@ impl Gains {
     #[inline(always)]
     fn at(&self, v: u32) -> i64 {
         let v = v as usize;
-        if v < self.gains.len() { self.gains[v] } else { NOWHERE }
+        if v < self.gains.len() {
+            self.gains[v]
+        } else {
+            NOWHERE
+        }
     }
 
     #[inline(always)]
@@ -152,7 +156,10 @@ impl<'a> Passes<'a> {
             let mut best = if leaving.is_empty() { 0 } else { NOWHERE };
             let mut edge = NONE;
             for &e in leaving {
-                let here = self.from.at(view.head(e)).saturating_add(spans.gain_on(e, weight));
+                let here = self
+                    .from
+                    .at(view.head(e))
+                    .saturating_add(spans.gain_on(e, weight));
                 if here > best {
                     best = here;
                     edge = e;
@@ -171,7 +178,10 @@ impl<'a> Passes<'a> {
             let mut best = if entering.is_empty() { 0 } else { NOWHERE };
             let mut edge = NONE;
             for &e in entering {
-                let here = self.to.at(view.tail(e)).saturating_add(spans.gain_on(e, weight));
+                let here = self
+                    .to
+                    .at(view.tail(e))
+                    .saturating_add(spans.gain_on(e, weight));
                 if here > best {
                     best = here;
                     edge = e;
@@ -203,7 +213,10 @@ impl<'a> Passes<'a> {
     fn keep_through(&mut self, spans: &Spans, run: &[u32], weight: u64) {
         let begin = self.view.tail(run.first().copied().unwrap_or(NONE));
         let end = self.view.head(run.last().copied().unwrap_or(NONE));
-        let along = self.to.at(begin).saturating_add(spans.gain_along(run, weight));
+        let along = self
+            .to
+            .at(begin)
+            .saturating_add(spans.gain_along(run, weight));
         let gain = along.saturating_add(self.from.at(end));
         if gain > self.gain {
             self.gain = gain;

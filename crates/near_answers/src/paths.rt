@@ -38,7 +38,8 @@ impl Paths {
     pub fn path(&self, i: u32) -> &[u32] {
         let from = i.saturating_mul(self.longest);
         if i < self.count {
-            self.edges.part(from, from.saturating_add(self.lengths.at(i)))
+            self.edges
+                .part(from, from.saturating_add(self.lengths.at(i)))
         } else {
             &[]
         }

@@ -26,13 +26,7 @@ fn sum_of(flow: &Amounts, edges: &[u32]) -> u64 {
 }
 
 /// The path of a slot: back to a source, its edge of the antichain, on to a sink.
-fn path_of(
-    alloc: Global,
-    back: &Half,
-    on: &Half,
-    slot: u32,
-    edge: u32,
-) -> Result<Ids, AllocError> {
+fn path_of(alloc: Global, back: &Half, on: &Half, slot: u32, edge: u32) -> Result<Ids, AllocError> {
     let mut path = Ids::new(alloc);
     let before = back.edges_of(alloc, slot)?;
     for &e in &before {

@@ -83,7 +83,11 @@ impl Spans {
     #[inline(always)]
     pub fn gain_on(&self, e: u32, weight: u64) -> i64 {
         let e = e as usize;
-        if e < self.items.len() { gain(self.items[e], weight) } else { 0 }
+        if e < self.items.len() {
+            gain(self.items[e], weight)
+        } else {
+            0
+        }
     }
 
     /// By how much the error falls where a weight is added along a path.
