@@ -3,12 +3,11 @@
 //! The first round begins with no path; each further one with the best answer so far less one or two paths, half the time with other
 //! weights. What a round gives is kept where its error is less.
 
-use crate::chance::Chance;
 use crate::draft::Draft;
 use crate::paths::{Paths, tidy_into};
 use dag_net::Answer;
 use flow_models::Problem;
-use search_rooms::{Names, Purse, View};
+use search_rooms::{Chance, Names, Purse, View};
 use std::alloc::{AllocError, Global};
 
 /// The edges of all paths of a draft are at most so many.

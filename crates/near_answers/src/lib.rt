@@ -4,7 +4,6 @@
 pub use descent::{Descent, Rounds};
 pub use routing::{Routed, route};
 
-mod chance;
 mod descent;
 mod draft;
 mod half;

@@ -253,7 +253,8 @@ impl<'a> OpenBox<'a> {
             }
             first = first.saturating_add(64);
         }
-        let touched = u64::from(self.walks.len(slot)).saturating_add(u64::from(ground.count_ahead(end)));
+        let ahead = u64::from(ground.count_ahead(end));
+        let touched = u64::from(self.walks.len(slot)).saturating_add(ahead);
         self.touch(touched);
     }
 
@@ -305,7 +306,11 @@ impl<'a> OpenBox<'a> {
 
     /// The token that closes the box by its weights alone, if there is one.
     pub fn closed_by_weights(&self) -> Option<Token> {
-        if self.has_gap() { Some(Token::Gap) } else { None }
+        if self.has_gap() {
+            Some(Token::Gap)
+        } else {
+            None
+        }
     }
 
     /// The token that closes the box, if there is one.

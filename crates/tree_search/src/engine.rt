@@ -105,7 +105,11 @@ impl<'a> Engine<'a> {
     fn advance(&mut self, profile: Profile, purse: &mut Purse) -> Option<Ending> {
         if let Some(token) = self.open.closing() {
             self.tokens.push(token);
-            return if self.go_on(purse) { None } else { Some(Ending::Refuted) };
+            return if self.go_on(purse) {
+                None
+            } else {
+                Some(Ending::Refuted)
+            };
         }
         let Some(token) = choose(&mut self.open, profile) else {
             return Some(Ending::Found);

@@ -30,14 +30,22 @@ pub fn branch(open: &mut OpenBox, token: Token, place: usize) -> Option<Frame> {
         place,
         begin: place.saturating_add(1),
     };
-    if make_child(open, &frame) { Some(frame) } else { None }
+    if make_child(open, &frame) {
+        Some(frame)
+    } else {
+        None
+    }
 }
 
 /// Makes the next child, where the box is the parent's again; none where there is none.
 pub fn next_child(open: &mut OpenBox, frame: Frame) -> Option<Frame> {
     let child = frame.child.saturating_add(1);
     let frame = Frame { child, ..frame };
-    if make_child(open, &frame) { Some(frame) } else { None }
+    if make_child(open, &frame) {
+        Some(frame)
+    } else {
+        None
+    }
 }
 
 /// Makes the child of a frame; false where there is none.
