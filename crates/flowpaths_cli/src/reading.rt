@@ -1,13 +1,13 @@
 //! The reading of an input, piece by piece, to its end or to its limit.
-ghost use Rattle.std.specs.Prelude.{◌≡◌, ◌⊎◌, List, ℕ};
-ghost use Rattle.flow_io.specs.Outside.{Rose};
+ghost use Rattle.std.specs.Prelude.{◌≡◌, ◌≤◌, ◌⊎◌, List, ℕ, length, IfOk, OnErr};
+ghost use Rattle.flow_io.specs.Outside.{HasCause, Puts, Rose, after_read};
 ghost use Rattle.flowpaths_cli.specs.Right.{AreBuilt};
 ghost use Rattle.flowpaths_cli.specs.Reporting.{EndsRight, status_at};
 
 use crate::reporting::{report_end, report_piece};
 use crate::settings::Settings;
 use crate::stop::Stop;
-use flow_io::{Inputs, Output, Status};
+use flow_io::{Fault, Inputs, Output, Status};
 use graph_text::BlockReader;
 use std::alloc::Global;
 
@@ -25,6 +25,18 @@ fn status_at(outcome: Result<Status, Stop>) -> Status
         Ok(status) => status,
         Err(stop) => stop.status(),
     }
+}
+
+/// One read of the selected input: puts bytes at the front of `into`, and answers how many. None of a nonempty `into` is the end.
+fn read_piece<I: Inputs>(inputs: &mut I, into: &mut [u8]) -> Result<usize, Fault>
+    ensures holds { (any : List ℕ) → I.holds inputs.new any ≡ I.holds inputs.old any }
+    ensures count { IfOk result (λ n. n ≤ length into.new) }
+    ensures bytes { IfOk result (λ n. Puts (I.selected inputs.old) n into.new) }
+    ensures left { IfOk result (λ n. I.selected inputs.new ≡ after_read n (I.selected inputs.old)) }
+    ensures err { OnErr result (I.selected inputs.new ≡ I.selected inputs.old) }
+    ensures cause { HasCause (I.faults inputs.old) (I.faults inputs.new) result }
+{
+    inputs.read(into)
 }
 
 /// Reads the selected input to its end, and reports each of its blocks as it comes.
@@ -50,7 +62,7 @@ pub fn report_input<I: Inputs, O: Output>(
     while total < MOST {
         let room = (MOST - total).min(ROOM);
         let piece = &mut buffer[..room];
-        let Ok(count) = inputs.read(piece) else {
+        let Ok(count) = read_piece(inputs, piece) else {
             return Status::Fault;
         };
         if count == 0 {
