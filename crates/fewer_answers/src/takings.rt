@@ -45,6 +45,16 @@ pub struct Takings {
     shift: u32,
 }
 
+/// From a place on the first of these numbers that is no less than a weight.
+fn first_from(numbers: &Pile<Known>, from: u32, weight: u64) -> u32 {
+    for place in from..numbers.count() {
+        if numbers.at(place).weight >= weight {
+            return place;
+        }
+    }
+    numbers.count()
+}
+
 impl Takings {
     /// Room for takings.
     pub fn with_room(alloc: Global, rooms: Rooms) -> Result<Takings, AllocError> {
@@ -177,7 +187,7 @@ impl Takings {
         self.known.clear();
         let mut next = 0u32;
         for &weight in self.votes.values() {
-            next = self.first_before(next, weight);
+            next = first_from(&self.before, next, weight);
             let before = self.before.at(next);
             let counts = if before.weight == weight {
                 before.counts
@@ -186,16 +196,6 @@ impl Takings {
             };
             self.known.push(Known { weight, counts });
         }
-    }
-
-    /// From a place on the first of the numbers of before that is no less than a number.
-    fn first_before(&self, from: u32, weight: u64) -> u32 {
-        for place in from..self.before.count() {
-            if self.before.at(place).weight >= weight {
-                return place;
-            }
-        }
-        self.before.count()
     }
 
     /// Those that are no wider than the widest path, the most promising first.
