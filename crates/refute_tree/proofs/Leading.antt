@@ -114,21 +114,21 @@ module _ (g : Graph) (cs : List Choice) (old new : OneBox) (k e : ℕ) (led : Is
   pub unlink_split : old.links.links ≡ reverse (links_of cs) ++ (k, e) ∷ []
   unlink_split = led.links ∙ reverse-cons (k, e) (links_of cs)
 
-  left : new.links.links ≡ reverse (links_of cs)
-  left =
+  pub unlink_left : new.links.links ≡ reverse (links_of cs)
+  unlink_left =
       ap (λ (l : LinkList). l.links) links ∙ ap (λ l. take (length l - 1) l) unlink_split
       ∙ take_at (reverse (links_of cs)) ((k, e) ∷ []) (length (reverse (links_of cs) ++ (k, e) ∷ []) - 1) (omega (arith, length-append (reverse (links_of cs)) ((k, e) ∷ [])))
 
   was : box_of old.ranges.items old.links.links ≡ with_edge (box_of new.ranges.items new.links.links) k e
   was =
       ap (box_of old.ranges.items) unlink_split ∙ box_of-link old.ranges.items (reverse (links_of cs)) k e unlink_inside
-      ∙ ap (λ l. with_edge (box_of old.ranges.items l) k e) (sym left) ∙ ap (λ rs. with_edge (box_of rs new.links.links) k e) (sym ranges)
+      ∙ ap (λ l. with_edge (box_of old.ranges.items l) k e) (sym unlink_left) ∙ ap (λ rs. with_edge (box_of rs new.links.links) k e) (sym ranges)
 
   -- the box before the step
   pub unlink_box : before (box_of old.ranges.items old.links.links) (Step k e) ≡ box_of new.ranges.items new.links.links
   unlink_box =
       ap (λ l. before (box_of old.ranges.items l) (Step k e)) unlink_split ∙ box_of-unlink old.ranges.items (reverse (links_of cs)) k e unlink_inside
-      ∙ ap (box_of old.ranges.items) (sym left) ∙ ap (λ rs. box_of rs new.links.links) (sym ranges)
+      ∙ ap (box_of old.ranges.items) (sym unlink_left) ∙ ap (λ rs. box_of rs new.links.links) (sym ranges)
 
   both : IsBoxBegun g (box_of new.ranges.items new.links.links) × IsTrue (has_edge (next_edges g (slot_at (box_of new.ranges.items new.links.links) k).walk) e)
   both =
@@ -144,7 +144,7 @@ module _ (g : Graph) (cs : List Choice) (old new : OneBox) (k e : ℕ) (led : Is
     net = led.net;
     slots = ap (λ (l : LinkList). l.slots) links ∙ led.slots ∙ ap length (sym ranges);
     edges = ap (λ (l : LinkList). l.edges) links ∙ led.edges;
-    links = left;
+    links = unlink_left;
     within = subst (λ rs. AreWithin (length rs) cs) (sym ranges) (All-tail (λ c. slot_of c < length old.ranges.items) (Step k e) cs led.within);
     begun = both.0;
     choices = omega (arith, room, ap (λ (l : LinkList). l.room) links);

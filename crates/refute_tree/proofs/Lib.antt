@@ -21,4 +21,5 @@ pub mod SumsBounds
 pub mod SumsAlong
 pub mod SumsWeights
 pub mod SumsWalks
-pub mod SumsSteps
+pub mod SumsTotals
+pub mod SumsBoxes

@@ -1,5 +1,5 @@
 -- The bounds of a slot by those of its neighbours.
-use Rattle.std.proofs.Common.{◌^◌, ◌≡◌, ℕ, zero, suc, ◌+◌, ◌-◌, ◌<◌, ◌≤◌, min, max, List, [], ◌∷◌, length, get_or, set, slice_index, get_or-set_same, get_or-set_other, refl, sym, ap, ◌∙◌, add-one, inl, inr, arith, Option, Some, None, is_none, true, true≢false}
+use Rattle.std.proofs.Common.{◌^◌, ◌≡◌, ℕ, zero, suc, ◌+◌, ◌-◌, ◌<◌, ◌≤◌, min, max, List, [], ◌∷◌, length, get_or, set, slice_index, get_or-set_same, get_or-set_other, refl, sym, ap, ◌∙◌, add-one, inl, inr, arith}
 use Rattle.std.proofs.lemmas.Bool.{cases_eq}
 use Rattle.std.proofs.lemmas.List.Edits.{fill_by_more}
 use Rattle.decomposition.specs.Boxes.{Slot, slot_at, upper_at, lower_at}

@@ -10,8 +10,8 @@ use Rattle.decomposition.proofs.Walks.{IsStep, walk-cons, walk-distinct, walk-in
 use Rattle.decomposition.proofs.Reaching.{Reaches-trans, reaches_by_walks}
 use Rattle.decomposition.proofs.Reach.{may_have-from, may_have-to}
 use Rattle.dag_net.proofs.Returns.{no_return}
-use Rattle.refute_tree.specs.Sums.{AddsWhere}
-use Rattle.refute_tree.proofs.SumsWeights.{adds-both}
+use Rattle.refute_tree.specs.Sums.{leads_to, is_empty}
+use Rattle.refute_tree.proofs.SumsWeights.{AreParts}
 
 -- no edge stands twice in a walk that is begun
 pub begun-distinct : (g : Graph) → IsNet g → (es : List ℕ) → IsBegun g es → IsDistinct eqb es
@@ -77,8 +77,16 @@ pub may_have-sum : (g : Graph) → IsNet g → (es xs : List ℕ) (e : ℕ) → 
 may_have-sum g net [] xs e begun is = absurd (omega (arith, ap length is, length-append xs (e ∷ [])))
 may_have-sum g net (d ∷ ds) xs e begun is = may_have-parts g net d ds xs e begun is
 
--- what is added ahead of a walk and then on it is added where the walk may have the edge
-pub adds_may : (g : Graph) → IsNet g → (walk xs : List ℕ) (last more : ℕ) (old mid new : List ℕ) → IsBegun g walk → walk ≡ xs ++ last ∷ [] → length old ≡ edge_count g → length mid ≡ length old
-    → AddsWhere (λ e. reaches g (head g last) (tail g e)) more old mid → AddsWhere (has_edge walk) more mid new → AddsWhere (may_have (paths g) walk) more old new
-adds_may g net walk xs last more old mid new begun is room same ahead along =
-    adds-both (λ e. reaches g (head g last) (tail g e)) (has_edge walk) (may_have (paths g) walk) more old mid new same ahead along (λ e l. may_have-sum g net walk xs last begun is e (omega arith) more)
+-- the parts of what a walk may have: what lies ahead of it, and what it has
+pub walk-parts : (g : Graph) → IsNet g → (es xs : List ℕ) (e n : ℕ) → IsBegun g es → es ≡ xs ++ e ∷ [] → n ≡ edge_count g → AreParts (may_have (paths g) es) (λ f. reaches g (head g e) (tail g f)) (has_edge es) n
+walk-parts g net es xs e n begun is edges f l m = may_have-sum g net es xs e begun is f (omega (arith, l, edges)) m
+
+-- each edge of an empty walk, or of one that is not, counts once
+pub may_have-either : (g : Graph) → IsNet g → (es : List ℕ) (f : ℕ) → f < edge_count g → (n : ℕ) → cond (may_have (paths g) es f) n 0 ≡ cond (leads_to g es f) n 0 + cond (is_empty es) n 0
+may_have-either g net [] f inside n = let may : may_have (paths g) [] f ≡ true = may_have-from g net [] f tt inside tt in omega (arith, ap (λ b. cond b n 0) may)
+may_have-either g net (e ∷ es) f inside n = omega arith
+
+-- a walk with a last edge is not empty
+pub not_empty : (g : Graph) (es xs : List ℕ) (e : ℕ) → es ≡ xs ++ e ∷ [] → (is_empty es ≡ false) × ((f : ℕ) → leads_to g es f ≡ may_have (paths g) es f)
+not_empty g [] xs e is = absurd (omega (arith, ap length is, length-append xs (e ∷ [])))
+not_empty g (d ∷ ds) xs e is = (refl, λ f. refl)

@@ -1,17 +1,16 @@
 -- What a front keeps, and what its fields stand for.
-use Rattle.std.specs.Prelude.{◌≡◌, ◌≢◌, ℕ, ◌<◌, ◌≤◌, ◌^◌, true, cond, List, [], length, IsTrue}
+use Rattle.std.specs.Prelude.{◌≡◌, ◌≢◌, ◌<◌, ◌≤◌, ◌^◌, true, cond, List, [], length, IsTrue}
 use Rattle.std.specs.List.{list_all}
 use Rattle.decomposition.specs.Graph.{Graph, IsNet, edge_count, is_run}
 use Rattle.decomposition.specs.declared.Token.{Token}
 use Rattle.decomposition.specs.declared.Token.TheVariants.{Gap, Miss, Split, Step}
-use Rattle.decomposition.specs.Instance.{Instance}
 use Rattle.decomposition.specs.Boxes.{Slot, slot_at, lower_at, upper_at}
 use Rattle.decomposition.specs.Tokens.{next_edges}
 use Rattle.flow_models.specs.Problem.{instance}
 use Rattle.flow_models.specs.declared.problem.Problem.{Problem}
 use Rattle.refute_tree.specs.Front.{Boxes, closing, AreLeft}
 use Rattle.refute_tree.specs.OneBox.{place_of, boxes_of, IsOneBox}
-use Rattle.refute_tree.specs.Sums.{HasRoom, SumsUp}
+use Rattle.refute_tree.specs.Sums.{HasRoom, AreTotals, SumsUp}
 use Rattle.refute_tree.specs.declared.front.Front.TheInside.{Inside}
 
 -- what the fields stand for: where there is a first box, it and those that its choices have still to give
@@ -44,6 +43,7 @@ pub record KeepsFirst (a : Inside) : Type 0 where
   pub cells : a.one.links.room ≡ a.room
   pub spent : length a.one.choices.items ≤ a.used
   pub room : HasRoom (length a.one.ranges.items) (edge_count a.net.now) a.sums
+  pub totals : AreTotals a.net.now a.one.links a.sums
   pub sums : SumsUp (instance a.net.now a.problem.now) (place_of a.one).box a.sums
 
 -- the fields go with each other, and the boxes are those that legal tokens left; where no box is left, nothing is said of the last one

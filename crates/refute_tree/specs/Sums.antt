@@ -1,10 +1,11 @@
 -- What is kept of the sums of a box.
-use Rattle.std.specs.Prelude.{◌≡◌, ℕ, ◌+◌, ◌≤◌, ◌<◌, ◌*◌, ◌^◌, ◌-◌, max, Bool, cond, List, length, slice_index, slice_index_or, vec_len}
+use Rattle.std.specs.Prelude.{◌≡◌, ◌≢◌, ℕ, ◌+◌, ◌≤◌, ◌<◌, ◌^◌, ◌-◌, max, Bool, true, false, cond, List, [], ◌∷◌, length, slice_index, slice_index_or, vec_len, IsTrue}
 use Rattle.decomposition.specs.Graph.{Graph, edge_count, has_edge, paths}
 use Rattle.decomposition.specs.Answer.{sum_below}
 use Rattle.decomposition.specs.declared.Range.{Range}
 use Rattle.decomposition.specs.Instance.{Instance, range_at}
-use Rattle.decomposition.specs.Boxes.{Slot, slot_at, upper_at, lower_at, may_have, gap}
+use Rattle.decomposition.specs.Boxes.{Slot, upper_at, lower_at, may_have, low_on, high_on, gap}
+use Rattle.link_cells.specs.Links.{LinkList, walk_of}
 use Rattle.refute_tree.specs.declared.sums.Weights.{Weights}
 
 -- room for so many slots and edges
@@ -27,25 +28,51 @@ pub record AreBounds (b : List Slot) (s : Weights) : Type 0 where
   pub uppers : AreUppers b s.uppers.items
   pub lowers : AreLowers b s.lowers.items
 
--- each weight has so much more where a test passes, and the others are the same
-abbrev pub AddsWhere : (ℕ → Bool) → ℕ → List ℕ → List ℕ → Type 0
-AddsWhere test more old new = (e : ℕ) → e < length old → slice_index new e ≡ slice_index old e + cond (test e) more 0
+-- each weight has so much less, and then so much more, where a test passes; the others are the same
+abbrev pub ChangesWhere : (ℕ → Bool) → ℕ → ℕ → List ℕ → List ℕ → Type 0
+ChangesWhere test less more old new = (e : ℕ) → e < length old → slice_index new e + cond (test e) less 0 ≡ slice_index old e + cond (test e) more 0
 
 -- each weight is at most so much
 abbrev pub AreWithin : ℕ → List ℕ → Type 0
 AreWithin most weights = (e : ℕ) → e < length weights → slice_index weights e ≤ most
 
--- for each edge the least weight that the first n slots put on it
-abbrev pub AreLows : List Slot → ℕ → List ℕ → Type 0
-AreLows b n low = (e : ℕ) → e < length low → slice_index low e ≡ sum_below (λ k. cond (has_edge (slot_at b k).walk e) (lower_at b k) 0) n
+-- each weight is at least so much where a test passes
+abbrev pub AreAbove : (ℕ → Bool) → ℕ → List ℕ → Type 0
+AreAbove test least weights = (e : ℕ) → e < length weights → IsTrue (test e) → least ≤ slice_index weights e
+
+-- those of the first n numbers whose place passes a test, added up
+abbrev pub sum_where : (ℕ → Bool) → List ℕ → ℕ → ℕ
+sum_where test numbers n = sum_below (λ k. cond (test k) (slice_index numbers k) 0) n
+
+-- whether a walk is empty
+abbrev pub is_empty : List ℕ → Bool
+is_empty [] = true
+is_empty (e ∷ es) = false
+
+-- whether a walk that is not empty may have the edge
+abbrev pub leads_to : Graph → List ℕ → ℕ → Bool
+leads_to g [] f = false
+leads_to g (e ∷ es) f = may_have (paths g) (e ∷ es) f
+
+-- the weights add up the bounds that are kept, whatever bounds these are: on each edge the lower ones of the slots whose walk has it, and
+-- the upper ones of those whose walk may have it; where the walk is empty, the upper one is added for all edges at once
+pub record AreTotals (g : Graph) (l : LinkList) (s : Weights) : Type 0 where
+  pub room : HasRoom l.slots (edge_count g) s
+  pub few : l.slots < 2 ^ 32
+  pub lowers : AreWithin (2 ^ 64 - 1) s.lowers.items
+  pub uppers : AreWithin (2 ^ 64 - 1) s.uppers.items
+  pub low : (e : ℕ) → e < edge_count g → slice_index s.low.items e ≡ sum_where (λ k. has_edge (walk_of l.links k) e) s.lowers.items l.slots
+  pub high : (e : ℕ) → e < edge_count g → slice_index s.high.items e ≡ sum_where (λ k. leads_to g (walk_of l.links k) e) s.uppers.items l.slots
+  pub everywhere : s.everywhere ≡ sum_where (λ k. is_empty (walk_of l.links k)) s.uppers.items l.slots
+
+-- the walks are the same, but for that of one slot
+pub record ChangesWalk (k : ℕ) (old new : LinkList) : Type 0 where
+  pub slots : new.slots ≡ old.slots
+  pub others : (j : ℕ) → j ≢ k → walk_of new.links j ≡ walk_of old.links j
 
 -- the greatest weight kept for an edge: its own, and what may be on every edge
 abbrev pub high_at : Weights → ℕ → ℕ
 high_at s e = slice_index s.high.items e + s.everywhere
-
--- for each edge the greatest weight that the first n slots may put on it
-abbrev pub AreHighs : Graph → List Slot → ℕ → Weights → Type 0
-AreHighs g b n s = (e : ℕ) → e < length s.high.items → high_at s e ≡ sum_below (λ k. cond (may_have (paths g) (slot_at b k).walk e) (upper_at b k) 0) n
 
 -- each of the weights kept is at most so much
 pub record AreSmall (most : ℕ) (s : Weights) : Type 0 where
@@ -53,29 +80,11 @@ pub record AreSmall (most : ℕ) (s : Weights) : Type 0 where
   pub high : (e : ℕ) → e < length s.high.items → high_at s e ≤ most
   pub everywhere : s.everywhere ≤ most
 
--- a lower and an upper weight are added for a walk of a net, and all else is the same
-pub record AddsWalk (g : Graph) (walk : List ℕ) (lower upper : ℕ) (old new : Weights) : Type 0 where
-  pub uppers : new.uppers ≡ old.uppers
-  pub lowers : new.lowers ≡ old.lowers
-  pub low_room : vec_len new.low ≡ vec_len old.low
-  pub high_room : vec_len new.high ≡ vec_len old.high
-  pub low : AddsWhere (has_edge walk) lower old.low.items new.low.items
-  pub high : (e : ℕ) → e < length old.high.items → high_at new e ≡ high_at old e + cond (may_have (paths g) walk e) upper 0
-  pub everywhere : new.everywhere ≤ old.everywhere + upper
-
--- the weights of the first n slots
-pub record Weighs (g : Graph) (b : List Slot) (n : ℕ) (s : Weights) : Type 0 where
-  pub room : HasRoom (length b) (edge_count g) s
-  pub bounds : AreBounds b s
-  pub low : AreLows b n s.low.items
-  pub high : AreHighs g b n s
-  pub small : AreSmall ((2 ^ 64 - 1) * n) s
-
 -- the sums are those of a box: the bounds of its slots, the least and the greatest weight on each edge, and the gap
 pub record SumsUp (i : Instance) (b : List Slot) (s : Weights) : Type 0 where
   pub bounds : AreBounds b s
-  pub low : AreLows b (length b) s.low.items
-  pub high : AreHighs i.graph b (length b) s
+  pub low : (e : ℕ) → e < length s.low.items → slice_index s.low.items e ≡ low_on b e
+  pub high : (e : ℕ) → e < length s.high.items → high_at s e ≡ high_on (paths i.graph) b e
   pub small : AreSmall (2 ^ 96) s
   pub gap : s.gap ≡ gap i b
 

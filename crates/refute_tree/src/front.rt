@@ -71,8 +71,8 @@ impl<'a> Front<'a> {
         ensures { IfOk result (λ front. front ≡ root_of (instance net.now p.now) d.now tokens) }
     {
         let one = OneBox::of_root(alloc, net, d.slots, p.cap, tokens)?;
-        let mut sums = Weights::with_room(alloc, d.slots as usize, net.edges() as usize)?;
-        sums.take(net, p, &one.links, &one.ranges);
+        let mut sums = Weights::with_room(alloc, d.slots, net.edges())?;
+        sums.mend(net, p, &one.links, &one.ranges);
         let closing = closing_token(net, p, d.limit, &one, &sums);
         Ok(Front {
             net,
@@ -184,13 +184,13 @@ impl<'a> Front<'a> {
             return false;
         }
         self.used += 1;
-        self.has_first = replace_first(self.net, &self.sums, &mut self.one, token);
+        self.has_first = replace_first(self.net, &mut self.sums, &mut self.one, token);
         if !self.has_first {
             self.closing = None;
             return true;
         }
         self.sums
-            .take(self.net, self.problem, &self.one.links, &self.one.ranges);
+            .mend(self.net, self.problem, &self.one.links, &self.one.ranges);
         self.closing = closing_token(
             self.net,
             self.problem,

@@ -7,9 +7,11 @@ ghost use Rattle.decomposition.specs.Tokens.{next_edges, with_edge, with_hi};
 ghost use Rattle.refute_tree.specs.declared.choice.Choice.TheVariants.{Step, Lower, Upper};
 ghost use Rattle.refute_tree.specs.Choices.{Place, HasEdge, coming, before, next_of, undone};
 ghost use Rattle.refute_tree.specs.OneBox.{place_of, boxes_of, IsLedTo, IsOneBox, Comes, GoesOn, GivesNext};
+ghost use Rattle.refute_tree.specs.Sums.{AreTotals};
 
 use crate::choice::Choice;
 use crate::next::{count_after, next_after};
+use crate::sums::Weights;
 use dag_net::Net;
 use decomposition::Range;
 use link_cells::Incidence;
@@ -78,14 +80,17 @@ impl OneBox {
         count
     }
 
-    /// Puts an edge at the end of the walk of a slot, and notes it.
-    pub fn step(&mut self, net: &Net, slot: u32, edge: u32)
+    /// Puts an edge at the end of the walk of a slot, and notes it. The bounds of the slot are taken off the sums.
+    pub fn step(&mut self, net: &Net, sums: &mut Weights, slot: u32, edge: u32)
         requires kept { IsOneBox net.now self.old }
+        requires totals { AreTotals net.now self.old.links sums.old }
         requires slot { slot < length self.old.ranges.items }
         requires follows { IsTrue (has_edge (next_edges net.now (slot_at (place_of self.old).box slot).walk) edge) }
         requires room { length self.old.choices.items < self.old.links.room }
-        ensures { Comes net.now self.old self.new (record { box = with_edge (place_of self.old).box slot edge; choices = Step slot edge ∷ (place_of self.old).choices }) }
+        ensures place { Comes net.now self.old self.new (record { box = with_edge (place_of self.old).box slot edge; choices = Step slot edge ∷ (place_of self.old).choices }) }
+        ensures totals { AreTotals net.now self.new.links sums.new }
     {
+        sums.clear(net, &self.links, slot);
         self.links.link(slot, edge).unwrap();
         self.choices.push(Choice::Step { slot, edge }).unwrap();
     }
@@ -96,10 +101,11 @@ impl OneBox {
         requires slot { slot < length self.old.ranges.items }
         requires middle { middle + 1 < 2 ^ 64 }
         requires room { length self.old.choices.items < self.old.links.room }
-        ensures { Comes net.now self.old self.new (record {
+        ensures place { Comes net.now self.old self.new (record {
           box = with_hi (place_of self.old).box slot middle;
           choices = Lower slot (middle + 1) (slot_at (place_of self.old).box slot).hi ∷ (place_of self.old).choices;
         }) }
+        ensures links { self.new.links ≡ self.old.links }
     {
         let hi = self.ranges[slot as usize].hi;
         self.ranges[slot as usize].hi = middle;
@@ -108,13 +114,16 @@ impl OneBox {
     }
 
     /// Undoes choices until one has a further box to give, which is then the first box; false where none has.
-    pub fn undo(&mut self, net: &Net) -> bool
+    /// The bounds of each slot whose walk changes are taken off the sums.
+    pub fn undo(&mut self, net: &Net, sums: &mut Weights) -> bool
         requires kept { IsOneBox net.now self.old }
+        requires totals { AreTotals net.now self.old.links sums.old }
         requires room { length self.old.choices.items ≤ self.old.links.room }
-        ensures { MatchOption (undone net.now (place_of self.old).box (place_of self.old).choices) (result ≡ false) (λ p. (result ≡ true) × Comes net.now self.old self.new p) }
+        ensures place { MatchOption (undone net.now (place_of self.old).box (place_of self.old).choices) (result ≡ false) (λ p. (result ≡ true) × Comes net.now self.old self.new p) }
+        ensures totals { AreTotals net.now self.new.links sums.new }
     {
         while !self.choices.is_empty() {
-            if self.go_on(net) {
+            if self.go_on(net, sums) {
                 return true;
             }
         }
@@ -122,15 +131,17 @@ impl OneBox {
     }
 
     /// Undoes the latest choice, and takes what is still to come of it, if there is anything.
-    fn go_on(&mut self, net: &Net) -> bool
+    fn go_on(&mut self, net: &Net, sums: &mut Weights) -> bool
         requires kept { IsOneBox net.now self.old }
+        requires totals { AreTotals net.now self.old.links sums.old }
         requires some { self.old.choices.items ≢ [] }
         requires room { length self.old.choices.items ≤ self.old.links.room }
-        ensures { GoesOn net.now self.old self.new result }
+        ensures place { GoesOn net.now self.old self.new result }
+        ensures totals { AreTotals net.now self.new.links sums.new }
     {
         let choice = self.choices.pop().unwrap();
         match choice {
-            Choice::Step { slot, edge } => self.next_step(net, slot, edge),
+            Choice::Step { slot, edge } => self.next_step(net, sums, slot, edge),
             Choice::Lower { slot, lo, hi } => {
                 self.raise(net, slot, lo, hi);
                 true
@@ -143,15 +154,18 @@ impl OneBox {
     }
 
     /// Undoes a step, which was the latest choice, and takes the next edge, if there is one.
-    fn next_step(&mut self, net: &Net, slot: u32, edge: u32) -> bool
+    fn next_step(&mut self, net: &Net, sums: &mut Weights, slot: u32, edge: u32) -> bool
         requires led { IsLedTo net.now (Step slot edge ∷ (place_of self.old).choices) self.old }
+        requires totals { AreTotals net.now self.old.links sums.old }
         requires room { length self.old.choices.items < self.old.links.room }
-        ensures { GivesNext net.now (Step slot edge) self.old self.new result }
+        ensures place { GivesNext net.now (Step slot edge) self.old self.new result }
+        ensures totals { AreTotals net.now self.new.links sums.new }
     {
+        sums.clear(net, &self.links, slot);
         self.links.unlink_last();
         match next_after(net, edge) {
             Some(next) => {
-                self.step(net, slot, next);
+                self.step(net, sums, slot, next);
                 true
             }
             None => false,
@@ -162,7 +176,8 @@ impl OneBox {
     fn raise(&mut self, net: &Net, slot: u32, lo: u64, hi: u64)
         requires led { IsLedTo net.now (Lower slot lo hi ∷ (place_of self.old).choices) self.old }
         requires room { length self.old.choices.items < self.old.links.room }
-        ensures { GivesNext net.now (Lower slot lo hi) self.old self.new true }
+        ensures place { GivesNext net.now (Lower slot lo hi) self.old self.new true }
+        ensures links { self.new.links ≡ self.old.links }
     {
         let was = self.ranges[slot as usize].lo;
         self.ranges[slot as usize] = Range { lo, hi };
@@ -172,7 +187,8 @@ impl OneBox {
     /// Undoes the upper half of a split, which was the latest choice.
     fn lower(&mut self, net: &Net, slot: u32, lo: u64)
         requires led { IsLedTo net.now (Upper slot lo ∷ (place_of self.old).choices) self.old }
-        ensures { GivesNext net.now (Upper slot lo) self.old self.new false }
+        ensures place { GivesNext net.now (Upper slot lo) self.old self.new false }
+        ensures links { self.new.links ≡ self.old.links }
     {
         self.ranges[slot as usize].lo = lo;
     }

@@ -1,11 +1,11 @@
 //! The boxes after a token in place of the first one.
 
-ghost use Rattle.std.specs.Prelude.{◌≡◌, ◌+◌, ◌/◌, ◌<◌, ◌^◌, length, vec_len, false, true, MatchOption};
+ghost use Rattle.std.specs.Prelude.{◌≡◌, ◌+◌, ◌/◌, ◌<◌, ◌^◌, length, false, true, MatchOption};
 ghost use Rattle.decomposition.specs.Instance.{Instance};
 ghost use Rattle.refute_tree.specs.Kept.{Replaces};
 ghost use Rattle.refute_tree.specs.Choices.{place_after};
 ghost use Rattle.refute_tree.specs.OneBox.{place_of, IsOneBox, Comes};
-ghost use Rattle.refute_tree.specs.Sums.{AreBounds};
+ghost use Rattle.refute_tree.specs.Sums.{AreBounds, AreTotals};
 
 use crate::next::first_next;
 use crate::one_box::OneBox;
@@ -22,19 +22,19 @@ fn middle(lower: u64, upper: u64) -> u64
     lower + (upper - lower) / 2
 }
 
-/// Puts the boxes after a token in place of the first; false where no box is left.
-pub fn replace_first(net: &Net, sums: &Weights, one: &mut OneBox, token: Token) -> bool
+/// Puts the boxes after a token in place of the first; false where no box is left. The sums are to be mended.
+pub fn replace_first(net: &Net, sums: &mut Weights, one: &mut OneBox, token: Token) -> bool
     requires kept { IsOneBox net.now one.old }
     requires fits { Replaces net.now (place_of one.old).box token }
-    requires lowers { vec_len sums.now.lowers ≡ length one.old.ranges.items }
-    requires uppers { vec_len sums.now.uppers ≡ length one.old.ranges.items }
-    requires bounds { AreBounds (place_of one.old).box sums.now }
+    requires totals { AreTotals net.now one.old.links sums.old }
+    requires bounds { AreBounds (place_of one.old).box sums.old }
     requires room { length one.old.choices.items < one.old.links.room }
-    ensures { (i : Instance) → i.graph ≡ net.now →
+    ensures place { (i : Instance) → i.graph ≡ net.now →
         MatchOption (place_after i (place_of one.old) token) (result ≡ false) (λ p. (result ≡ true) × Comes net.now one.old one.new p) }
+    ensures totals { AreTotals net.now one.new.links sums.new }
 {
     match token {
-        Token::Gap | Token::Miss(_) => one.undo(net),
+        Token::Gap | Token::Miss(_) => one.undo(net, sums),
         Token::Split(slot) => {
             let k = slot as usize;
             one.split(net, slot, middle(sums.lowers[k], sums.uppers[k]));
@@ -42,7 +42,7 @@ pub fn replace_first(net: &Net, sums: &Weights, one: &mut OneBox, token: Token) 
         }
         Token::Step(slot) => {
             let edge = first_next(net, &one.links, slot).unwrap();
-            one.step(net, slot, edge);
+            one.step(net, sums, slot, edge);
             true
         }
     }

@@ -1,14 +1,15 @@
 //! What the first box puts on slots and edges: the bounds of each slot, the least and the greatest weight on each edge, and the gap.
 
-ghost use Rattle.std.specs.Prelude.{◌≡◌, ◌<◌, ◌≤◌, ◌^◌, ◌*◌, ◌++◌, [], ◌∷◌, ℕ, List, length, slice_index, vec_len, eqb, IfOk, IsTrue};
+ghost use Rattle.std.specs.Prelude.{◌≡◌, ◌<◌, ◌≤◌, ◌^◌, ◌++◌, [], ◌∷◌, ℕ, List, length, set, slice_index, vec_len, eqb, IfOk, IsTrue};
 ghost use Rattle.std.specs.List.{IsDistinct};
-ghost use Rattle.decomposition.specs.Graph.{IsNet, edge_count, tail, has_edge};
+ghost use Rattle.decomposition.specs.Graph.{Graph, IsNet, edge_count, tail, has_edge, paths};
 ghost use Rattle.decomposition.specs.Answer.{sum_below};
+ghost use Rattle.decomposition.specs.Boxes.{may_have};
 ghost use Rattle.decomposition.specs.Reach.{reaches, IsBegun};
 ghost use Rattle.flow_models.specs.Problem.{instance};
-ghost use Rattle.link_cells.specs.Links.{walk_of};
+ghost use Rattle.link_cells.specs.Links.{LinkList, walk_of};
 ghost use Rattle.refute_tree.specs.OneBox.{box_of, IsBoxBegun};
-ghost use Rattle.refute_tree.specs.Sums.{HasRoom, AreBounds, AreUppers, AreLowers, AddsWhere, AreWithin, AreSmall, AddsWalk, Weighs, SumsUp, high_at, outside};
+ghost use Rattle.refute_tree.specs.Sums.{AreUppers, AreLowers, ChangesWhere, AreWithin, AreAbove, AreSmall, AreTotals, ChangesWalk, SumsUp, high_at, outside};
 
 use dag_net::{Net, Ranges};
 use decomposition::Range;
@@ -16,68 +17,61 @@ use flow_models::Problem;
 use link_cells::Incidence;
 use std::alloc::{AllocError, Global};
 
-/// Sets the upper bounds: the least hi of the slots up to each.
-fn set_uppers(uppers: &mut [u64], ranges: &[Range])
-    requires { length uppers.old ≡ length ranges.now }
-    ensures { (links : List (ℕ × ℕ)) → AreUppers (box_of ranges.now links) uppers.new }
-{
-    let mut least = u64::MAX;
-    for k in 0..ranges.len() {
-        least = least.min(ranges[k].hi);
-        uppers[k] = least;
-    }
-}
-
-/// Sets the lower bounds: the greatest lo of the slots from each on.
-fn set_lowers(lowers: &mut [u64], ranges: &[Range])
-    requires { length lowers.old ≡ length ranges.now }
-    ensures { (links : List (ℕ × ℕ)) → AreLowers (box_of ranges.now links) lowers.new }
-{
-    let mut greatest = 0u64;
-    for k in (0..ranges.len()).rev() {
-        greatest = greatest.max(ranges[k].lo);
-        lowers[k] = greatest;
-    }
-}
-
-/// Adds a weight to each edge that a vertex reaches.
-fn add_ahead(weights: &mut [u128], net: &Net, from: u32, more: u64)
+/// Takes a weight off each edge that a vertex reaches, and adds another there.
+fn change_ahead(weights: &mut [u128], net: &Net, from: u32, less: u64, more: u64)
     requires room { length weights.old ≡ edge_count net.now }
     requires vertex { from < net.now.vertices }
-    requires small { AreWithin (2 ^ 97) weights.old }
-    ensures { AddsWhere (λ e. reaches net.now from (tail net.now e)) more weights.old weights.new }
+    requires small { AreWithin (2 ^ 96) weights.old }
+    requires there { AreAbove (λ e. reaches net.now from (tail net.now e)) less weights.old }
+    ensures { ChangesWhere (λ e. reaches net.now from (tail net.now e)) less more weights.old weights.new }
 {
     for e in 0..net.edges() {
         if net.reaches(from, net.tail(e)) {
-            weights[e as usize] += u128::from(more);
+            let rest = weights[e as usize] - u128::from(less);
+            weights[e as usize] = rest + u128::from(more);
         }
     }
 }
 
-/// Adds a lower and an upper weight to each edge of the walk of a slot.
-fn add_along(
-    low: &mut [u128],
-    high: &mut [u128],
-    links: &Incidence,
-    slot: u32,
-    lower: u64,
-    upper: u64,
-)
+/// Takes a weight off each edge of the walk of a slot, and adds another there.
+fn change_along(weights: &mut [u128], links: &Incidence, slot: u32, less: u64, more: u64)
     requires slot { slot < links.now.slots }
     requires once { IsDistinct eqb (walk_of links.now.links slot) }
-    requires inside { (e : ℕ) → IsTrue (has_edge (walk_of links.now.links slot) e) → e < length low.old }
-    requires room { length high.old ≡ length low.old }
-    requires small { AreWithin (2 ^ 98) low.old × AreWithin (2 ^ 98) high.old }
-    ensures low { AddsWhere (has_edge (walk_of links.now.links slot)) lower low.old low.new }
-    ensures high { AddsWhere (has_edge (walk_of links.now.links slot)) upper high.old high.new }
+    requires inside { (e : ℕ) → IsTrue (has_edge (walk_of links.now.links slot) e) → e < length weights.old }
+    requires small { AreWithin (2 ^ 97) weights.old }
+    requires there { AreAbove (has_edge (walk_of links.now.links slot)) less weights.old }
+    ensures { ChangesWhere (has_edge (walk_of links.now.links slot)) less more weights.old weights.new }
 {
     let mut at = links.last_cell(slot);
     while let Some(cell) = at {
         let e = links.edge_of(cell) as usize;
-        low[e] += u128::from(lower);
-        high[e] += u128::from(upper);
+        let rest = weights[e] - u128::from(less);
+        weights[e] = rest + u128::from(more);
         at = links.cell_before(cell);
     }
+}
+
+/// Takes a weight off each edge that the walk of a slot has or whose tail its last edge leads to, and adds another there.
+fn change_high(
+    high: &mut [u128],
+    net: &Net,
+    links: &Incidence,
+    slot: u32,
+    last: u32,
+    less: u64,
+    more: u64,
+)
+    requires net { IsNet net.now }
+    requires room { length high.old ≡ edge_count net.now }
+    requires slot { slot < links.now.slots }
+    requires last { (before : List ℕ) × (walk_of links.now.links slot ≡ before ++ last ∷ []) }
+    requires begun { IsBegun net.now (walk_of links.now.links slot) }
+    requires small { AreWithin (2 ^ 96) high.old }
+    requires there { AreAbove (may_have (paths net.now) (walk_of links.now.links slot)) less high.old }
+    ensures { ChangesWhere (may_have (paths net.now) (walk_of links.now.links slot)) less more high.old high.new }
+{
+    change_ahead(high, net, net.head(last), less, more);
+    change_along(high, links, slot, less, more);
 }
 
 /// The bounds of each slot's weight, the least and the greatest weight on each edge, and the gap. What slots with an empty
@@ -93,15 +87,15 @@ pub struct Weights {
 }
 
 impl Weights {
-    /// Room for the sums of boxes of so many slots on so many edges.
-    pub fn with_room(alloc: Global, slots: usize, edges: usize) -> Result<Weights, AllocError>
-        ensures { IfOk result (HasRoom slots edges) }
+    /// The sums of so many slots on so many edges with no bounds: all 0, whatever the walks are.
+    pub fn with_room(alloc: Global, slots: u32, edges: u32) -> Result<Weights, AllocError>
+        ensures { IfOk result (λ sums. (g : Graph) (l : LinkList) → edge_count g ≡ edges → l.slots ≡ slots → AreTotals g l sums) }
     {
         Ok(Weights {
-            uppers: vec![in alloc; 0; slots]?,
-            lowers: vec![in alloc; 0; slots]?,
-            low: vec![in alloc; 0; edges]?,
-            high: vec![in alloc; 0; edges]?,
+            uppers: vec![in alloc; 0; slots as usize]?,
+            lowers: vec![in alloc; 0; slots as usize]?,
+            low: vec![in alloc; 0; edges as usize]?,
+            high: vec![in alloc; 0; edges as usize]?,
             everywhere: 0,
             gap: 0,
         })
@@ -124,80 +118,106 @@ impl Weights {
         self.high[edge as usize] + self.everywhere
     }
 
-    /// Takes the sums of a box.
-    pub fn take(&mut self, net: &Net, problem: &Problem, links: &Incidence, ranges: &[Range])
-        requires room { HasRoom (length ranges.now) (edge_count net.now) self.old }
-        requires few { length ranges.now < 2 ^ 32 }
+    /// Takes the bounds of a slot off the sums, so that its walk may be changed.
+    pub fn clear(&mut self, net: &Net, links: &Incidence, slot: u32)
+        requires net { IsNet net.now }
+        requires totals { AreTotals net.now links.now self.old }
+        requires slot { slot < links.now.slots }
+        requires begun { IsBegun net.now (walk_of links.now.links slot) }
+        ensures { (l : LinkList) → ChangesWalk slot links.now l → AreTotals net.now l self.new }
+    {
+        self.set_upper(net, links, slot, 0);
+        self.set_lower(net, links, slot, 0);
+    }
+
+    /// Takes the sums of a box: sets the bounds that differ, and adds up the gap.
+    pub fn mend(&mut self, net: &Net, problem: &Problem, links: &Incidence, ranges: &[Range])
+        requires totals { AreTotals net.now links.now self.old }
         requires slots { links.now.slots ≡ length ranges.now }
         requires ranged { length problem.now.ranges ≡ edge_count net.now }
         requires begun { IsBoxBegun net.now (box_of ranges.now links.now.links) }
-        ensures room { HasRoom (length ranges.now) (edge_count net.now) self.new }
+        ensures totals { AreTotals net.now links.now self.new }
         ensures sums { SumsUp (instance net.now problem.now) (box_of ranges.now links.now.links) self.new }
     {
         let edges = net.edges();
-        set_uppers(&mut self.uppers, ranges);
-        set_lowers(&mut self.lowers, ranges);
-        self.low.fill(0);
-        self.high.fill(0);
-        self.everywhere = 0;
-        self.weigh(net, links, ranges);
+        self.mend_uppers(net, links, ranges);
+        self.mend_lowers(net, links, ranges);
         self.gap = self.total_gap(edges, &problem.ranges);
     }
 
-    /// Adds the bounds of each slot to the weights, which are all 0.
-    fn weigh(&mut self, net: &Net, links: &Incidence, ranges: &[Range])
+    /// Sets the upper bounds: the least hi of the slots up to each.
+    fn mend_uppers(&mut self, net: &Net, links: &Incidence, ranges: &[Range])
         requires net { IsNet net.now }
-        requires room { HasRoom (length ranges.now) (edge_count net.now) self.old }
-        requires few { length ranges.now < 2 ^ 32 }
+        requires totals { AreTotals net.now links.now self.old }
         requires slots { links.now.slots ≡ length ranges.now }
-        requires bounds { AreBounds (box_of ranges.now links.now.links) self.old }
         requires begun { IsBoxBegun net.now (box_of ranges.now links.now.links) }
-        requires none { AreWithin 0 self.old.low.items × AreWithin 0 self.old.high.items × (self.old.everywhere ≡ 0) }
-        ensures { Weighs net.now (box_of ranges.now links.now.links) (length ranges.now) self.new }
+        ensures totals { AreTotals net.now links.now self.new }
+        ensures uppers { AreUppers (box_of ranges.now links.now.links) self.new.uppers.items }
     {
+        let mut least = u64::MAX;
         for k in 0..ranges.len() {
-            let lower = self.lowers[k];
-            let upper = self.uppers[k];
-            self.add_slot(net, links, k as u32, lower, upper);
+            least = least.min(ranges[k].hi);
+            self.set_upper(net, links, k as u32, least);
         }
     }
 
-    /// Adds the bounds of a slot to the weights: the lower one on each edge of its walk, the upper one on each edge that it may have.
-    fn add_slot(&mut self, net: &Net, links: &Incidence, slot: u32, lower: u64, upper: u64)
+    /// Sets the lower bounds: the greatest lo of the slots from each on.
+    fn mend_lowers(&mut self, net: &Net, links: &Incidence, ranges: &[Range])
         requires net { IsNet net.now }
-        requires room { (vec_len self.old.low ≡ edge_count net.now) × (vec_len self.old.high ≡ edge_count net.now) }
+        requires totals { AreTotals net.now links.now self.old }
+        requires slots { links.now.slots ≡ length ranges.now }
+        requires begun { IsBoxBegun net.now (box_of ranges.now links.now.links) }
+        ensures totals { AreTotals net.now links.now self.new }
+        ensures lowers { AreLowers (box_of ranges.now links.now.links) self.new.lowers.items }
+        ensures uppers { self.new.uppers ≡ self.old.uppers }
+    {
+        let mut greatest = 0u64;
+        for k in (0..ranges.len()).rev() {
+            greatest = greatest.max(ranges[k].lo);
+            self.set_lower(net, links, k as u32, greatest);
+        }
+    }
+
+    /// Sets the upper bound of a slot, and the greatest weights with it.
+    fn set_upper(&mut self, net: &Net, links: &Incidence, slot: u32, upper: u64)
+        requires net { IsNet net.now }
+        requires totals { AreTotals net.now links.now self.old }
         requires slot { slot < links.now.slots }
         requires begun { IsBegun net.now (walk_of links.now.links slot) }
-        requires small { AreSmall (2 ^ 96) self.old }
-        ensures { AddsWalk net.now (walk_of links.now.links slot) lower upper self.old self.new }
+        ensures totals { AreTotals net.now links.now self.new }
+        ensures uppers { self.new.uppers.items ≡ set self.old.uppers.items slot upper }
+        ensures lowers { self.new.lowers ≡ self.old.lowers }
     {
+        let was = self.uppers[slot as usize];
+        if was == upper {
+            return;
+        }
+        self.uppers[slot as usize] = upper;
         match links.last_of(slot) {
-            Some(last) => self.add_walk(net, links, slot, last, lower, upper),
-            None => self.everywhere += u128::from(upper),
+            Some(last) => change_high(&mut self.high, net, links, slot, last, was, upper),
+            None => {
+                let rest = self.everywhere - u128::from(was);
+                self.everywhere = rest + u128::from(upper);
+            }
         }
     }
 
-    /// Adds the bounds of a slot whose walk has a last edge: the upper one also on each edge that the walk's end reaches.
-    fn add_walk(
-        &mut self,
-        net: &Net,
-        links: &Incidence,
-        slot: u32,
-        last: u32,
-        lower: u64,
-        upper: u64,
-    )
+    /// Sets the lower bound of a slot, and the least weights with it.
+    fn set_lower(&mut self, net: &Net, links: &Incidence, slot: u32, lower: u64)
         requires net { IsNet net.now }
-        requires room { (vec_len self.old.low ≡ edge_count net.now) × (vec_len self.old.high ≡ edge_count net.now) }
+        requires totals { AreTotals net.now links.now self.old }
         requires slot { slot < links.now.slots }
-        requires last { (before : List ℕ) × (walk_of links.now.links slot ≡ before ++ last ∷ []) }
         requires begun { IsBegun net.now (walk_of links.now.links slot) }
-        requires small { AreSmall (2 ^ 96) self.old }
-        ensures { AddsWalk net.now (walk_of links.now.links slot) lower upper self.old self.new }
+        ensures totals { AreTotals net.now links.now self.new }
+        ensures lowers { self.new.lowers.items ≡ set self.old.lowers.items slot lower }
+        ensures uppers { self.new.uppers ≡ self.old.uppers }
     {
-        let end = net.head(last);
-        add_ahead(&mut self.high, net, end, upper);
-        add_along(&mut self.low, &mut self.high, links, slot, lower, upper);
+        let was = self.lowers[slot as usize];
+        if was == lower {
+            return;
+        }
+        self.lowers[slot as usize] = lower;
+        change_along(&mut self.low, links, slot, was, lower);
     }
 
     /// The sum over all edges of how far the least weight lies above the range, or the greatest one below.

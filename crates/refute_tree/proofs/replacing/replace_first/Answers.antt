@@ -25,8 +25,8 @@ step-requires-clause-follows c =
     (step_edges c.args.net.now c.args.one.now c.in-Step.slot c.unwrap-edge.result c.first_next.result
     (step_inside c.args.net.now c.args.one.now c.args.token c.in-Step.slot c.requires.fits c.in-Step.is) c.first_next.ensures c.unwrap-edge.ensures)
 
-pub returns-in-Step : goal.returns-in-Step
-returns-in-Step c = λ i graph.
+pub returns-in-Step-clause-place : goal.returns-in-Step-clause-place
+returns-in-Step-clause-place c = λ i graph.
     step_returns c.args.net.now c.args.one.now c.step.new.self c.args.token c.in-Step.slot c.unwrap-edge.result _ i graph c.in-Step.is
     (step_edges c.args.net.now c.args.one.now c.in-Step.slot c.unwrap-edge.result c.first_next.result
-    (step_inside c.args.net.now c.args.one.now c.args.token c.in-Step.slot c.requires.fits c.in-Step.is) c.first_next.ensures c.unwrap-edge.ensures) c.step.ensures
+    (step_inside c.args.net.now c.args.one.now c.args.token c.in-Step.slot c.requires.fits c.in-Step.is) c.first_next.ensures c.unwrap-edge.ensures) c.step.ensures.place

@@ -1,4 +1,4 @@
-use Rattle.std.proofs.Common.{◌≡◌, ◌≢◌, ◌+◌, Bool, true, cond, [], length, true≢false, refl, sym, ap, subst, ◌∙◌, arith}
+use Rattle.std.proofs.Common.{◌≡◌, ◌+◌, Bool, true, cond, [], length, true≢false, refl, sym, ap, subst, ◌∙◌, arith}
 use Rattle.decomposition.specs.Graph.{IsNet, edge_count}
 use Rattle.decomposition.specs.Tokens.{is_legal, after_token}
 use Rattle.flow_models.specs.Problem.{instance}
@@ -45,7 +45,7 @@ came_here c is =
     let a = c.self.inside in
     let i = instance a.net.now a.problem.now in
     came i a.decision.limit a.one c.args.token c.self.invariant.problem.net (keeps c).one (legal c) c.replace_first-self-inside.new.one c.replace_first-self-inside.result
-    (c.replace_first-self-inside.ensures i refl) is
+    (c.replace_first-self-inside.ensures.place i refl) is
 
 pub returns-then-not-self : goal.returns-then-not-self
 returns-then-not-self c =
@@ -54,7 +54,7 @@ returns-then-not-self c =
     let b = (goal.at.returns-then-not-self c).After-replace_first-self-inside in
     let new = c.replace_first-self-inside.new.one in
     let none = gone i a.decision.limit a.one c.args.token c.self.invariant.problem.net (keeps b).one (legal b) new c.replace_first-self-inside.result
-    (c.replace_first-self-inside.ensures i refl) c.if-not-self.true in
+    (c.replace_first-self-inside.ensures.place i refl) c.if-not-self.true in
     applies (shown a) c.args.self.now _ c.args.token [] c.self.view_is (ap (after_token i a.decision.limit c.args.token) (kept-boxes a (has b)) ∙ none)
     (ap (λ (b : Bool). record (shown a) { used = a.used + 1; boxes = cond b (boxes_of a.net.now new) [] }) c.if-not-self.true)
 
@@ -64,7 +64,7 @@ invariant_of-self c =
     let i = instance a.net.now a.problem.now in
     let b = (goal.at.invariant_of-self c).After-replace_first-self-inside in
     let new = c.replace_first-self-inside.new.one in
-    let none = gone i a.decision.limit a.one c.args.token c.self.invariant.problem.net (keeps b).one (legal b) new c.replace_first-self-inside.result (c.replace_first-self-inside.ensures i refl) c.if-not-self.true in
+    let none = gone i a.decision.limit a.one c.args.token c.self.invariant.problem.net (keeps b).one (legal b) new c.replace_first-self-inside.result (c.replace_first-self-inside.ensures.place i refl) c.if-not-self.true in
     record {
       problem = c.self.invariant.problem;
       fits = omega (arith, c.requires.room, ap (λ (x : Boxes). x.used) c.self.view_is, ap (λ (x : Boxes). x.room) c.self.view_is);
@@ -75,26 +75,20 @@ invariant_of-self c =
           (ap (λ (h : Bool). record (shown a) { used = a.used + 1; boxes = cond h (boxes_of a.net.now new) [] }) c.if-not-self.true);
     }
 
-pub take-requires-clause-room : goal.take-requires-clause-room
-take-requires-clause-room c =
-    let a = c.self.inside in
-    let b = (goal.at.take-requires-clause-room c).After-replace_first-self-inside in
-    let same : length a.one.ranges.items ≡ length c.deref.result.now = sym (came_here b c.if-not-self.false).slots ∙ ap length (sym c.deref.ensures.value) in
-    subst (λ n. HasRoom n (edge_count a.net.now) a.sums) same (keeps b).room
+pub mend-requires-clause-slots : goal.mend-requires-clause-slots
+mend-requires-clause-slots c = (came_here (goal.at.mend-requires-clause-slots c).After-replace_first-self-inside c.if-not-self.false).box.slots ∙ ap length (sym c.deref.ensures.value)
 
-pub take-requires-clause-few : goal.take-requires-clause-few
-take-requires-clause-few c = omega (arith, (came_here (goal.at.take-requires-clause-few c).After-replace_first-self-inside c.if-not-self.false).box.few, ap length c.deref.ensures.value)
-
-pub take-requires-clause-slots : goal.take-requires-clause-slots
-take-requires-clause-slots c = (came_here (goal.at.take-requires-clause-slots c).After-replace_first-self-inside c.if-not-self.false).box.slots ∙ ap length (sym c.deref.ensures.value)
-
-pub take-requires-clause-begun : goal.take-requires-clause-begun
-take-requires-clause-begun c =
+pub mend-requires-clause-begun : goal.mend-requires-clause-begun
+mend-requires-clause-begun c =
     subst (λ rs. IsBoxBegun c.self.inside.net.now (box_of rs c.replace_first-self-inside.new.one.links.links)) (sym c.deref.ensures.value)
-    (came_here (goal.at.take-requires-clause-begun c).After-replace_first-self-inside c.if-not-self.false).box.begun
+    (came_here (goal.at.mend-requires-clause-begun c).After-replace_first-self-inside c.if-not-self.false).box.begun
 
 pub closing_token-self-inside-requires-clause-kept : goal.closing_token-self-inside-requires-clause-kept
 closing_token-self-inside-requires-clause-kept c = (came_here (goal.at.closing_token-self-inside-requires-clause-kept c).After-replace_first-self-inside c.if-not-self.false).box
+
+pub closing_token-self-inside-requires-clause-room : goal.closing_token-self-inside-requires-clause-room
+closing_token-self-inside-requires-clause-room c =
+    c.mend.ensures.totals.room.uppers ∙ (came_here (goal.at.closing_token-self-inside-requires-clause-room c).After-replace_first-self-inside c.if-not-self.false).box.slots
 
 pub invariant_of-self-2 : goal.invariant_of-self-2
 invariant_of-self-2 c =
@@ -112,8 +106,9 @@ invariant_of-self-2 c =
         one = here.box;
         cells = here.room ∙ old.cells;
         spent = omega (arith, here.few, old.spent);
-        room = subst (λ rs. HasRoom (length rs) (edge_count a.net.now) c.take.new.self) c.deref.ensures.value c.take.ensures.room;
-        sums = subst (λ rs. SumsUp i (box_of rs new.links.links) c.take.new.self) c.deref.ensures.value c.take.ensures.sums;
+        room = subst (λ n. HasRoom n (edge_count a.net.now) c.mend.new.self) here.box.slots c.mend.ensures.totals.room;
+        totals = c.mend.ensures.totals;
+        sums = subst (λ rs. SumsUp i (box_of rs new.links.links) c.mend.new.self) c.deref.ensures.value c.mend.ensures.sums;
       };
       closing = closing-first (shown a) c.replace_first-self-inside.result (place_of new).box (waiting a.net.now (place_of new).box (place_of new).choices) c.closing_token-self-inside.result c.if-not-self.false c.closing_token-self-inside.ensures;
       left = left_more (shown a) _ c.args.token (boxes_of a.net.now new) c.self.invariant.left (ap (after_token i a.decision.limit c.args.token) (kept-boxes a (has b)) ∙ here.boxes)

@@ -1,4 +1,4 @@
-use Rattle.std.proofs.Common.{◌≡◌, ◌∷◌, [], Some, length, replicate, refl, ap, sym, subst, ◌∙◌, arith}
+use Rattle.std.proofs.Common.{◌∷◌, [], Some, length, replicate, refl, ap, sym, subst, ◌∙◌, arith}
 use Rattle.std.proofs.lemmas.List.{length-reverse}
 use Rattle.decomposition.specs.Graph.{edge_count}
 use Rattle.flow_models.specs.Problem.{instance}
@@ -6,6 +6,10 @@ use Rattle.refute_tree.specs.Choices.{Place, stands_for}
 use Rattle.refute_tree.specs.OneBox.{box_of}
 use Rattle.refute_tree.specs.Sums.{HasRoom, SumsUp}
 use Rattle.refute_tree.proofs.front.Front.root.Goals as goal
+
+pub mend-requires-clause-totals : goal.mend-requires-clause-totals
+mend-requires-clause-totals c =
+    c.in_ok-sums.ensures c.args.net.now c.in_ok-one.one.links (sym c.edges.ensures.edges) (omega (arith, c.in_ok-one.ensures.kept.slots, c.in_ok-one.ensures.slots))
 
 pub invariant_of-result : goal.invariant_of-result
 invariant_of-result c =
@@ -21,8 +25,9 @@ invariant_of-result c =
         one = c.in_ok-one.ensures.kept;
         cells = c.in_ok-one.ensures.room;
         spent = omega (arith, ap (λ (p : Place). length p.choices) place, length-reverse one.choices.items);
-        room = subst (λ rs. HasRoom (length rs) (edge_count g) c.take.new.self) c.deref.ensures.value c.take.ensures.room;
-        sums = subst (λ rs. SumsUp i (box_of rs one.links.links) c.take.new.self) c.deref.ensures.value c.take.ensures.sums;
+        room = subst (λ n. HasRoom n (edge_count g) c.mend.new.self) c.in_ok-one.ensures.kept.slots c.mend.ensures.totals.room;
+        totals = c.mend.ensures.totals;
+        sums = subst (λ rs. SumsUp i (box_of rs one.links.links) c.mend.new.self) c.deref.ensures.value c.mend.ensures.sums;
       };
       closing = c.closing_token-closing.ensures;
       left = record {

@@ -29,9 +29,9 @@ lower-requires c =
     let room : old.links.room ≤ vec_capacity c.pop.new.self = search rules in
     record { led = led_popped c.args.net.now old popped (Upper c.in-Upper.slot c.in-Upper.lo) refl refl (items ∙ ap (λ d. c.pop.new.self.items ++ d ∷ []) c.in-Upper.is) room c.requires.kept }
 
-pub returns-in-Step : goal.returns-in-Step
-returns-in-Step c =
+pub returns-in-Step-clause-place : goal.returns-in-Step-clause-place
+returns-in-Step-clause-place c =
     let old : OneBox = c.args.self.now in
     let popped : OneBox = record { ranges = old.ranges; links = old.links; choices = c.pop.new.self } in
     let items : old.choices.items ≡ c.pop.new.self.items ++ c.unwrap-choice.result ∷ [] = search rules in
-    goes_on c.args.net.now (Step c.in-Step.slot c.in-Step.edge) old popped c.next_step.new.self c.next_step.result refl refl (items ∙ ap (λ d. c.pop.new.self.items ++ d ∷ []) c.in-Step.is) c.next_step.ensures
+    goes_on c.args.net.now (Step c.in-Step.slot c.in-Step.edge) old popped c.next_step.new.self c.next_step.result refl refl (items ∙ ap (λ d. c.pop.new.self.items ++ d ∷ []) c.in-Step.is) c.next_step.ensures.place

@@ -9,8 +9,8 @@ use Rattle.refute_tree.specs.Choices.{slot_of}
 use Rattle.refute_tree.proofs.Leading.{range_led, lo_box, place_is}
 use Rattle.refute_tree.proofs.one_box.OneBox.lower.Goals as goal
 
-pub returns : goal.returns
-returns c =
+pub returns-clause-place : goal.returns-clause-place
+returns-clause-place c =
     let old : OneBox = c.args.self.now in
     let g = c.args.net.now in
     let k = c.args.slot in

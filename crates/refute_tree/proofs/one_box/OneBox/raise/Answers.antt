@@ -14,8 +14,8 @@ use Rattle.refute_tree.proofs.Leading.{range_led, comes, raised, raised_lo, box-
 use Rattle.refute_tree.proofs.Placing.{bounds_at, box_of-set}
 use Rattle.refute_tree.proofs.one_box.OneBox.raise.Goals as goal
 
-pub returns : goal.returns
-returns c =
+pub returns-clause-place : goal.returns-clause-place
+returns-clause-place c =
     let old : OneBox = c.args.self.now in
     let g = c.args.net.now in
     let k = c.args.slot in

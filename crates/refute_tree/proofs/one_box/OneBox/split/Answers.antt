@@ -13,8 +13,8 @@ use Rattle.refute_tree.proofs.Leading.{range_led, hi_box, comes}
 use Rattle.refute_tree.proofs.Placing.{bounds_at}
 use Rattle.refute_tree.proofs.one_box.OneBox.split.Goals as goal
 
-pub returns : goal.returns
-returns c =
+pub returns-clause-place : goal.returns-clause-place
+returns-clause-place c =
     let old : OneBox = c.args.self.now in
     let g = c.args.net.now in
     let k = c.args.slot in

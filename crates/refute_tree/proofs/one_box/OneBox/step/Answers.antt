@@ -5,6 +5,8 @@ use Rattle.refute_tree.proofs.NextEdges.{next_inside}
 use Rattle.refute_tree.specs.declared.choice.Choice.TheVariants.{Step}
 use Rattle.refute_tree.specs.declared.one_box.OneBox.{OneBox}
 use Rattle.link_cells.specs.Links.{LinkList}
+use Rattle.refute_tree.proofs.SumsBoxes.{begun-at}
+use Rattle.refute_tree.proofs.SumsTotals.{linked}
 use Rattle.refute_tree.proofs.Leading.{step_box, step_led, link_room, comes}
 use Rattle.refute_tree.proofs.one_box.OneBox.step.Goals as goal
 
@@ -16,8 +18,16 @@ unwrap-requires c =
     let few = link_room c.args.net.now _ c.args.self.now c.requires.kept (omega (arith, c.requires.room, length-reverse c.args.self.now.choices.items)) in
     search (few, rules)
 
-pub returns : goal.returns
-returns c =
+pub clear-requires-clause-begun : goal.clear-requires-clause-begun
+clear-requires-clause-begun c = begun-at c.args.net.now c.args.self.now.ranges.items c.args.self.now.links.links c.args.slot c.requires.slot c.requires.kept.begun
+
+pub returns-clause-totals : goal.returns-clause-totals
+returns-clause-totals c =
+    let links : c.link.new.self ≡ record c.args.self.now.links { links = c.args.self.now.links.links ++ (c.args.slot, c.args.edge) ∷ [] } = search rules in
+    c.clear.ensures c.link.new.self (linked c.args.self.now.links c.link.new.self c.args.slot c.args.edge links)
+
+pub returns-clause-place : goal.returns-clause-place
+returns-clause-place c =
     let old : OneBox = c.args.self.now in
     let new : OneBox = record { ranges = old.ranges; links = c.link.new.self; choices = c.push.new.self } in
     let links : c.link.new.self ≡ record old.links { links = old.links.links ++ (c.args.slot, c.args.edge) ∷ [] } = search rules in

@@ -1,10 +1,14 @@
 use Rattle.std.proofs.Common.{length}
+use Rattle.refute_tree.specs.Sums.{AreTotals}
 use Rattle.refute_tree.proofs.Leading.{UndoesSame}
 use Rattle.refute_tree.proofs.one_box.OneBox.undo.Given as goal
 
 -- the undo gives from here what it gives from the start
 abbrev pub invariant-loop-self : goal.invariant-loop-self
-invariant-loop-self l = UndoesSame l.net l.initial.self l.self
+invariant-loop-self l = record {
+  same : UndoesSame l.net l.initial.self l.self;
+  totals : AreTotals l.net l.self.links l.sums;
+}
 
 abbrev pub decreases-loop-self : goal.decreases-loop-self
 decreases-loop-self l = length l.self.choices.items

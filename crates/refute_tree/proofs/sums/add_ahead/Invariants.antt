@@ -1,7 +1,0 @@
-use Rattle.decomposition.specs.Graph.{tail}
-use Rattle.decomposition.specs.Reach.{reaches}
-use Rattle.refute_tree.proofs.SumsWeights.{AddsBelow}
-use Rattle.refute_tree.proofs.sums.add_ahead.Given as goal
-
-abbrev pub invariant-loop-e : goal.invariant-loop-e
-invariant-loop-e l = AddsBelow (λ e. reaches l.net l.from (tail l.net e)) l.more l.e l.fn.weights l.weights
