@@ -129,7 +129,7 @@ walk-kept a f k view has inside = ap (λ (b : List Slot). (slot_at b k).walk) (f
 pub upper-kept : (a : Inside) (f : Boxes) (k u : ℕ) → shown a ≡ f → IsKept a → f.boxes ≢ [] → k < length (first_of f.boxes) → u ≡ get_or a.sums.uppers.items k u → upper_at (first_of f.boxes) k ≡ u
 upper-kept a f k u view kept some inside is =
     let keeps = first-kept a f view kept some in
-    upper-read (first_of f.boxes) a.sums k u (omega (arith, first-length a f view (has-first a f view some), keeps.room.uppers)) (sums-kept a f view kept some).bounds inside is
+    upper-read (first_of f.boxes) a.sums k u (omega (arith, first-length a f view (has-first a f view some), keeps.totals.room.uppers, keeps.one.slots)) (sums-kept a f view kept some).bounds inside is
 
 -- what closes the first box, or there is none
 pub closing-first : (f : Boxes) (has : Bool) (b : List Slot) (bs : List (List Slot)) (t : Option Token) → has ≡ true → t ≡ closing_token f.instance f.limit b → t ≡ closing (record f { boxes = cond has (b ∷ bs) [] })
@@ -141,14 +141,14 @@ closing-is a f view kept = kept.closing ∙ ap closing view
 pub lower-kept : (a : Inside) (f : Boxes) (k u : ℕ) → shown a ≡ f → IsKept a → f.boxes ≢ [] → k < length (first_of f.boxes) → u ≡ get_or a.sums.lowers.items k u → lower_at (first_of f.boxes) k ≡ u
 lower-kept a f k u view kept some inside is =
     let keeps = first-kept a f view kept some in
-    lower-read (first_of f.boxes) a.sums k u (omega (arith, first-length a f view (has-first a f view some), keeps.room.lowers)) (sums-kept a f view kept some).bounds inside is
+    lower-read (first_of f.boxes) a.sums k u (omega (arith, first-length a f view (has-first a f view some), keeps.totals.room.lowers, keeps.one.slots)) (sums-kept a f view kept some).bounds inside is
 
 -- the bounds of a slot of the first box are kept
 pub bounds-there : (a : Inside) (f : Boxes) (k : ℕ) → shown a ≡ f → IsKept a → f.boxes ≢ [] → k < length (first_of f.boxes) → (k < vec_len a.sums.lowers) × (k < vec_len a.sums.uppers)
 bounds-there a f k view kept some inside =
     let keeps = first-kept a f view kept some in
     let long = first-length a f view (has-first a f view some) in
-    (omega (arith, inside, long, keeps.room.lowers), omega (arith, inside, long, keeps.room.uppers))
+    (omega (arith, inside, long, keeps.totals.room.lowers, keeps.one.slots), omega (arith, inside, long, keeps.totals.room.uppers, keeps.one.slots))
 
 -- the paths of an open first box are its answer
 pub open-answer : (f : Boxes) (a : List (List ℕ × ℕ)) → IsFirstOpen f → 0 < edge_count f.instance.graph → a ≡ box_paths (first_of f.boxes) (length (first_of f.boxes)) → IsOpenAnswer f a

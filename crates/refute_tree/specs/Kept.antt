@@ -10,7 +10,7 @@ use Rattle.flow_models.specs.Problem.{instance}
 use Rattle.flow_models.specs.declared.problem.Problem.{Problem}
 use Rattle.refute_tree.specs.Front.{Boxes, closing, AreLeft}
 use Rattle.refute_tree.specs.OneBox.{place_of, boxes_of, IsOneBox}
-use Rattle.refute_tree.specs.Sums.{HasRoom, AreTotals, SumsUp}
+use Rattle.refute_tree.specs.Sums.{AreTotals, SumsUp}
 use Rattle.refute_tree.specs.declared.front.Front.TheInside.{Inside}
 
 -- what the fields stand for: where there is a first box, it and those that its choices have still to give
@@ -37,12 +37,11 @@ pub record IsProblemOn (g : Graph) (p : Problem) : Type 0 where
   pub ranged : length p.ranges ≡ edge_count g
   pub rules : IsTrue (list_all (is_run g) p.rules)
 
--- the choices led to the first box, there is room for one choice a token, and the sums are those of the box
+-- the choices led to the first box, there is room for one choice a token, and the sums are those of the bounds kept, which are those of the box
 pub record KeepsFirst (a : Inside) : Type 0 where
   pub one : IsOneBox a.net.now a.one
   pub cells : a.one.links.room ≡ a.room
   pub spent : length a.one.choices.items ≤ a.used
-  pub room : HasRoom (length a.one.ranges.items) (edge_count a.net.now) a.sums
   pub totals : AreTotals a.net.now a.one.links a.sums
   pub sums : SumsUp (instance a.net.now a.problem.now) (place_of a.one).box a.sums
 

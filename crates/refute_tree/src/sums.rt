@@ -51,7 +51,7 @@ fn change_along(weights: &mut [u128], links: &Incidence, slot: u32, less: u64, m
     }
 }
 
-/// Takes a weight off each edge that the walk of a slot has or whose tail its last edge leads to, and adds another there.
+/// Takes a weight off each edge that the walk of a slot has or that its last edge leads to, and adds another there.
 fn change_high(
     high: &mut [u128],
     net: &Net,
@@ -74,8 +74,8 @@ fn change_high(
     change_along(high, links, slot, less, more);
 }
 
-/// The bounds of each slot's weight, the least and the greatest weight on each edge, and the gap. What slots with an empty
-/// walk may put on every edge is kept once.
+/// The bounds of each slot's weight, the least and the greatest weight on each edge, which are sums of these bounds, and the gap.
+/// What slots with an empty walk may put on every edge is kept once.
 #[derive(Debug, Drop)]
 pub struct Weights {
     pub uppers: Vec<u64>,

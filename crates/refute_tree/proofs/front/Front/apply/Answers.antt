@@ -5,7 +5,7 @@ use Rattle.flow_models.specs.Problem.{instance}
 use Rattle.refute_tree.specs.Front.{Boxes, first_of, closing}
 use Rattle.refute_tree.specs.Kept.{shown, KeepsFirst, Replaces}
 use Rattle.refute_tree.specs.Choices.{waiting}
-use Rattle.refute_tree.specs.Sums.{HasRoom, SumsUp}
+use Rattle.refute_tree.specs.Sums.{SumsUp}
 use Rattle.refute_tree.specs.OneBox.{place_of, box_of, boxes_of, IsBoxBegun}
 use Rattle.refute_tree.proofs.Applied.{Came, came, gone, applies, kept-boxes, left_more}
 use Rattle.refute_tree.proofs.Fronts.{may_take-has, has-first, first-is, first-kept, closing-first}
@@ -106,7 +106,6 @@ invariant_of-self-2 c =
         one = here.box;
         cells = here.room ∙ old.cells;
         spent = omega (arith, here.few, old.spent);
-        room = subst (λ n. HasRoom n (edge_count a.net.now) c.mend.new.self) here.box.slots c.mend.ensures.totals.room;
         totals = c.mend.ensures.totals;
         sums = subst (λ rs. SumsUp i (box_of rs new.links.links) c.mend.new.self) c.deref.ensures.value c.mend.ensures.sums;
       };

@@ -4,7 +4,7 @@ use Rattle.decomposition.specs.Graph.{edge_count}
 use Rattle.flow_models.specs.Problem.{instance}
 use Rattle.refute_tree.specs.Choices.{Place, stands_for}
 use Rattle.refute_tree.specs.OneBox.{box_of}
-use Rattle.refute_tree.specs.Sums.{HasRoom, SumsUp}
+use Rattle.refute_tree.specs.Sums.{SumsUp}
 use Rattle.refute_tree.proofs.front.Front.root.Goals as goal
 
 pub mend-requires-clause-totals : goal.mend-requires-clause-totals
@@ -25,7 +25,6 @@ invariant_of-result c =
         one = c.in_ok-one.ensures.kept;
         cells = c.in_ok-one.ensures.room;
         spent = omega (arith, ap (λ (p : Place). length p.choices) place, length-reverse one.choices.items);
-        room = subst (λ n. HasRoom n (edge_count g) c.mend.new.self) c.in_ok-one.ensures.kept.slots c.mend.ensures.totals.room;
         totals = c.mend.ensures.totals;
         sums = subst (λ rs. SumsUp i (box_of rs one.links.links) c.mend.new.self) c.deref.ensures.value c.mend.ensures.sums;
       };

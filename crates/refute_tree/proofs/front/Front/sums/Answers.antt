@@ -8,7 +8,7 @@ use Rattle.refute_tree.proofs.front.Front.sums.Goals.{After-self}
 -- the edge is one of those that weights are kept for
 inside : (c : After-self) → (c.args.edge < vec_len c.self.inside.sums.low) × (c.args.edge < vec_len c.self.inside.sums.high)
 inside c =
-    let room = (first-kept c.self.inside c.args.self.now c.self.view_is c.self.invariant c.requires.some).room in
+    let room = (first-kept c.self.inside c.args.self.now c.self.view_is c.self.invariant c.requires.some).totals.room in
     let edges = ap (λ (x : Boxes). edge_count x.instance.graph) c.self.view_is in
     (omega (arith, c.requires.edge, room.low, edges), omega (arith, c.requires.edge, room.high, edges))
 
