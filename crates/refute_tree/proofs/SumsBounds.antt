@@ -1,5 +1,5 @@
 -- The bounds of a slot by those of its neighbours.
-use Rattle.std.proofs.Common.{◌^◌, ◌≡◌, ℕ, zero, suc, ◌+◌, ◌-◌, ◌<◌, ◌≤◌, min, max, List, [], ◌∷◌, length, get_or, set, slice_index, get_or-set_same, get_or-set_other, refl, sym, ap, ◌∙◌, add-one, inl, inr, arith}
+use Rattle.std.proofs.Common.{◌≡◌, ℕ, zero, suc, ◌+◌, ◌-◌, ◌<◌, ◌≤◌, min, max, List, [], ◌∷◌, length, get_or, set, slice_index, get_or-set_same, get_or-set_other, refl, sym, ap, ◌∙◌, add-one, inl, inr, arith}
 use Rattle.std.proofs.lemmas.Bool.{cases_eq}
 use Rattle.std.proofs.lemmas.List.Edits.{fill_by_more}
 use Rattle.decomposition.specs.Boxes.{Slot, slot_at, upper_at, lower_at}
@@ -39,12 +39,7 @@ slot_at-box ranges links k r h =
     slots_from-at 0 k ranges links (get_or ranges k r) h (get_or_any ranges k r (get_or ranges k r) h)
     ∙ ap (λ n. record { lo = (get_or ranges k r).lo; hi = (get_or ranges k r).hi; walk = walk_of links n }) same
 
--- the upper bound of the first slot
-pub upper_at-first : (b : List Slot) → 0 < length b → (slot_at b 0).hi ≤ 2 ^ 64 - 1 → min (2 ^ 64 - 1) (slot_at b 0).hi ≡ upper_at b 0
-upper_at-first [] h small = absurd (omega arith)
-upper_at-first (s ∷ b) h small = omega arith
-
--- and that of the next, by the least hi so far
+-- the upper bound of the next slot, by the least hi so far
 pub upper_at-next : (b : List Slot) (k least : ℕ) → least ≡ upper_at b k → k + 1 < length b → min least (slot_at b (k + 1)).hi ≡ upper_at b (k + 1)
 upper_at-next b k least is h = rw (add-one k, is) (sym (upper_at-suc b k (omega arith)))
 

@@ -3,7 +3,7 @@ use Rattle.std.proofs.Common.{◌≡◌, ℕ, ◌+◌, ◌-◌, ◌<◌, ◌≤�
 use Rattle.std.proofs.lemmas.Bool.{cases_eq, false_from_ne_true}
 use Rattle.std.specs.Prelude.{IsTrue, ◌↔◌}
 use Rattle.decomposition.specs.Graph.{Graph, IsNet}
-use Rattle.refute_tree.specs.Sums.{ChangesWhere, AreWithin, AreAbove}
+use Rattle.refute_tree.specs.Sums.{ChangesWhere, AreAbove}
 use Rattle.decomposition.specs.Reach.{Reaches, reaches}
 use Rattle.decomposition.proofs.Reaching.{reaches_by_walks}
 
@@ -43,10 +43,6 @@ pub cond-le : (b : Bool) (n : ℕ) → cond b n 0 ≤ n
 cond-le true n = omega arith
 cond-le false n = omega arith
 
--- weights that have more are greater by no more than that
-pub within-more : (test : ℕ → Bool) (most less more : ℕ) (old new : List ℕ) → length new ≡ length old → ChangesWhere test less more old new → AreWithin most old → AreWithin (most + more) new
-within-more test most less more old new same changes within e l = omega (arith, changes e (omega arith), within e (omega arith), cond-le (test e) more)
-
 -- one test passes where either of two others does, and these never both do
 abbrev pub AreParts : (ℕ → Bool) → (ℕ → Bool) → (ℕ → Bool) → ℕ → Type 0
 AreParts test first second n = (e : ℕ) → e < n → (m : ℕ) → cond (test e) m 0 ≡ cond (first e) m 0 + cond (second e) m 0
@@ -80,7 +76,3 @@ module _ (test first second : ℕ → Bool) (less more : ℕ) (old mid : List �
   -- both parts, one after the other
   pub changes_both : (new : List ℕ) → length mid ≡ length old → ChangesWhere first less more old mid → ChangesWhere second less more mid new → ChangesWhere test less more old new
   changes_both new same one two e l = omega (arith, one e l, two e (omega arith), parts e l less, parts e l more)
-
--- a greater bound, of the same weights
-pub within-along : (least most : ℕ) (xs ys : List ℕ) → ys ≡ xs → least ≤ most → AreWithin least xs → AreWithin most ys
-within-along least most xs ys same fits within = subst (λ zs. AreWithin most zs) (sym same) (λ e l. omega (arith, within e l))

@@ -1,5 +1,5 @@
 use Rattle.std.proofs.Common.{◌≡◌, ◌+◌, Bool, true, cond, [], length, true≢false, refl, sym, ap, subst, ◌∙◌, arith}
-use Rattle.decomposition.specs.Graph.{IsNet, edge_count}
+use Rattle.decomposition.specs.Graph.{IsNet}
 use Rattle.decomposition.specs.Tokens.{is_legal, after_token}
 use Rattle.flow_models.specs.Problem.{instance}
 use Rattle.refute_tree.specs.Front.{Boxes, first_of, closing}

@@ -1,6 +1,5 @@
 use Rattle.std.proofs.Common.{◌∷◌, [], Some, length, replicate, refl, ap, sym, subst, ◌∙◌, arith}
 use Rattle.std.proofs.lemmas.List.{length-reverse}
-use Rattle.decomposition.specs.Graph.{edge_count}
 use Rattle.flow_models.specs.Problem.{instance}
 use Rattle.refute_tree.specs.Choices.{Place, stands_for}
 use Rattle.refute_tree.specs.OneBox.{box_of}
