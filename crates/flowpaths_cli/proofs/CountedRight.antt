@@ -159,20 +159,20 @@ counted_optimal mode nodes i a es value cert runs known few first fits wide abov
 
 -- an answer and a lower bound, with the trail of the search that was spent
 pub counted_bounds : (mode : Mode) (nodes : ℕ) (i : Instance) (es : List ℕ) (value : ℕ) (upper : Option ℕ) (a : List (List ℕ × ℕ)) (cert : Cert) (trail : Trail) (runs : Option (List (List ℕ)))
-    → ArePathsFor Interval i upper a → HasEachPathOnce a → AreFewPaths i a → IsAtMostFirst mode i upper → IsKnownWhereBookedFit mode i upper → IsWidth i (length es) → IsAntichain i es
-    → value ≡ length es → IfSome upper (λ u. value < u) → IsCertFor nodes mode i value cert → HasCutWhereDue mode i cert → HasCrowdWhereFound mode i upper cert → IsTrailFor nodes mode i value upper trail
+    → ArePathsFor Interval i upper a → HasEachPathOnce a → AreFewPaths i a → IsAtMostFirst mode i upper → IsKnownWhereBookedFit mode i upper → IsWidth i (length es)
+    → length es ≤ value → IsLowerBound Interval i value → IfSome upper (λ u. value < u) → IsCertFor nodes mode i value cert → HasCutWhereDue mode i cert → HasCrowdWhereFound mode i upper cert → IsTrailFor nodes mode i value upper trail
     → IsCounted mode nodes i (said Bounds (Some value) upper a cert (Some trail) runs)
-counted_bounds mode nodes i es value upper a cert trail runs are once few first fits wide chain many above shown cut crowd spent = record {
+counted_bounds mode nodes i es value upper a cert trail runs are once few first fits wide many bound above shown cut crowd spent = record {
   paths = are;
   once = once;
   few = few;
   first = first;
   known = fits;
-  wide = at_least_width i es value wide (omega (arith, many));
+  wide = at_least_width i es value wide many;
   cut = cut;
   crowd = crowd;
   marked = record { value = value; lower = refl; upper = above; cert = shown; trail = spent };
-  bound = subst (IsLowerBound Interval i) (sym many) (width_bounds i es chain);
+  bound = bound;
   optimal = λ is. absurd (let no' : ⊥ = cc in no');
   infeasible = λ is. absurd (let no' : ⊥ = cc in no');
 }

@@ -8,6 +8,7 @@ pub mod Bounded
 pub mod Widths
 pub mod PathsOnce
 pub mod CountedRight
+pub mod Floors
 pub mod Solved
 pub mod TokenPlaces
 pub mod Attempts

@@ -1,5 +1,5 @@
 -- What the searches for few paths found is right of the graph, and speaks of it.
-use Rattle.std.proofs.Common.{◌≡◌, ℕ, ◌<◌, ◌^◌, List, [], Option, Some, None, false, ◌&&◌, nat_le, length, refl, sym, subst, ◌∙◌, inl, inr, arith, leb-true}
+use Rattle.std.proofs.Common.{◌≡◌, ℕ, ◌+◌, ◌≤◌, ◌<◌, ◌^◌, List, [], Option, Some, None, false, ◌&&◌, nat_le, length, refl, sym, subst, ◌∙◌, inl, inr, arith, leb-true}
 use Rattle.std.specs.Prelude.{All, IfSome}
 use Rattle.std.proofs.lemmas.Bool.{and_parts}
 use Rattle.decomposition.specs.declared.Mode.{Mode}
@@ -8,7 +8,7 @@ use Rattle.decomposition.specs.declared.Side.{Side}
 use Rattle.decomposition.specs.declared.Decision.{Decision}
 use Rattle.decomposition.specs.Answer.{IsAnswer, IsInReportOrder}
 use Rattle.decomposition.specs.Certificates.{IsBoundingTree, IsCut, decision_below, decision_at_all}
-use Rattle.decomposition.specs.Graph.{Graph, is_path}
+use Rattle.decomposition.specs.Graph.{Graph, edge_count, is_path}
 use Rattle.decomposition.specs.Instance.{Instance, IsInstance, IsLowerBound, lower_bound}
 use Rattle.decomposition.specs.Searches.{EndsSpent}
 use Rattle.decomposition.specs.Tokens.{IsRefutation, rule_list}
@@ -17,7 +17,7 @@ use Rattle.decomposition.proofs.Cuts.{cuts_refute}
 use Rattle.decomposition.proofs.Excess.{error-from_decomposes}
 use Rattle.decomposition.proofs.FewPaths.{flows_decompose, trees_refute_all}
 use Rattle.decomposition.proofs.Root.{all-place, trees_bound}
-use Rattle.path_report.specs.Laws.{AreRisingRuns, HasTrail, IsCertOf, IsEntryOf, IsFoundIn, IsSmall}
+use Rattle.path_report.specs.Laws.{AreRisingRuns, HasTrail, IsCertOf, IsEntryOf, IsFoundIn, IsSmall, IsSmallTrail}
 use Rattle.path_report.specs.declared.report.Cert.{Cert}
 use Rattle.path_report.specs.declared.report.Cert.TheVariants.{Tree, Cut, Crowd}
 use Rattle.path_report.specs.declared.report.Mark.{Mark}
@@ -28,8 +28,9 @@ use Rattle.flowpaths_cli.specs.declared.counting.Finding.TheVariants.{Known, Cro
 use Rattle.flowpaths_cli.specs.Booking.{IsAtMostFirst}
 use Rattle.flowpaths_cli.specs.declared.settings.Settings.{Settings}
 use Rattle.flowpaths_cli.specs.Right.{AreListed, CountsPaths, IsCertFor, IsTrailFor, NothingIsWithin, SolvedRight, decision_between, is_cut}
-use Rattle.flowpaths_cli.specs.Searched.{IsSolvedBy, IsSpentBy}
+use Rattle.flowpaths_cli.specs.Searched.{IsRaised, IsRaisedWithin, IsSolvedBy, IsSpentBy, floor_of}
 use Rattle.flowpaths_cli.proofs.CountedRight.{said, all_same, between_same, cert_for, counted_bounds, counted_none, counted_optimal, no_cut, right_for, width_bounds, with_ranges, one_width}
+use Rattle.flowpaths_cli.proofs.Floors.{floor_above, floor_bounds}
 use Rattle.flowpaths_cli.proofs.PathsOnce.{nothing_once}
 
 -- a search that was spent shows a trail for its decision
@@ -70,22 +71,51 @@ right_by_tree s i a es upper tree runs counts listed by counted =
     (cert_for s.nodes s.mode i upper (Tree tree) counts (subst (λ n. IsCertFor s.nodes Interval i n (Tree tree)) (sym counted) shown)) (no_cut s.mode i (Tree tree) refl by.within) in
     right_for s.mode s i _ counts facts listed
 
+-- what is refuted where a search was spent, of as many paths as the width or more
+raised_within : (nodes : ℕ) (i : Instance) (width count : ℕ) (raised : Option Trail) → count ≤ edge_count i.graph + length i.rules
+    → IfSome raised (λ tree. IsRaised nodes i width tree × (tree.decision.slots + 1 < count)) → IfSome raised (IsRaisedWithin nodes i width)
+raised_within nodes i width count None few raised = tt
+raised_within nodes i width count (Some tree) few raised = (raised.0, omega (arith, few, raised.1))
+
+raised_alone : (nodes : ℕ) (i : Instance) (width : ℕ) (raised : Option Trail) → IfSome raised (IsRaisedWithin nodes i width) → IfSome raised (IsRaised nodes i width)
+raised_alone nodes i width None raised = tt
+raised_alone nodes i width (Some tree) raised = raised.0
+
+raised_below : (nodes : ℕ) (i : Instance) (width count : ℕ) (raised : Option Trail) → width < count → IfSome raised (λ tree. IsRaised nodes i width tree × (tree.decision.slots + 1 < count)) → floor_of width raised < count
+raised_below nodes i width count None more raised = more
+raised_below nodes i width count (Some tree) more raised = raised.1
+
+-- their trees fit a report
+pub raised_small : (nodes : ℕ) (i : Instance) (width : ℕ) (raised : Option Trail) → IfSome raised (IsRaisedWithin nodes i width) → IfSome raised IsSmallTrail
+raised_small nodes i width None raised = tt
+raised_small nodes i width (Some tree) raised = raised.0.refuted.small
+
+-- what was raised of a graph whose search for one path fewer was spent
+pub raised_at_known : (nodes : ℕ) (mode : Mode) (i : Instance) (a : List (List ℕ × ℕ)) (es : List ℕ) (trail : Trail) (raised : Option Trail) → IsSolvedBy nodes mode i es (Known a (Spent trail raised)) → IfSome raised (IsRaisedWithin nodes i (length es))
+raised_at_known nodes mode i a es trail raised by = raised_within nodes i (length es) (length a) raised by.finds.1 by.finds.2.2
+
 -- the search for one path fewer was spent
-pub right_by_trail : (s : Settings) (i : Instance) (a : List (List ℕ × ℕ)) (es : List ℕ) (lower upper : ℕ) (cert : Cert) (trail : Trail) (runs : Option (List (List ℕ))) → CountsPaths s.mode → AreListed s i runs → IsSolvedBy s.nodes s.mode i es (Known a (Spent trail))
-    → upper ≡ length a → lower ≡ length es → IsCertFor s.nodes Interval i (length es) cert → is_cut cert ≡ false → SolvedRight s i (said Bounds (Some lower) (Some upper) a cert (Some trail) runs)
-right_by_trail s i a es lower upper cert trail runs counts listed by counted many shown other =
-    let more : length es < length a = by.finds.2.0 in
+pub right_by_trail : (s : Settings) (i : Instance) (a : List (List ℕ × ℕ)) (es : List ℕ) (lower upper : ℕ) (cert : Cert) (trail : Trail) (raised : Option Trail) (runs : Option (List (List ℕ))) → CountsPaths s.mode → AreListed s i runs → IsSolvedBy s.nodes s.mode i es (Known a (Spent trail raised))
+    → upper ≡ length a → lower ≡ floor_of (length es) raised → IsCertFor s.nodes Interval i (floor_of (length es) raised) cert → is_cut cert ≡ false → SolvedRight s i (said Bounds (Some lower) (Some upper) a cert (Some trail) runs)
+right_by_trail s i a es lower upper cert trail raised runs counts listed by counted many shown other =
+    let within = raised_within s.nodes i (length es) (length a) raised by.finds.1 by.finds.2.2 in
+    let alone = raised_alone s.nodes i (length es) raised within in
+    let bound = floor_bounds s.nodes i es raised (with_ranges s.mode i by.valid) by.antichain alone in
     let spent = trail_for s.nodes s.mode i (decision_below Interval i (length a)) lower (Some (length a)) trail by.finds.2.1 (between_same s.mode i lower (length a) counts) in
-    let facts = counted_bounds s.mode s.nodes i es lower (Some (length a)) a cert trail runs (by.finds.0.meets, refl) by.finds.0.once by.finds.1 by.first by.known by.wide by.antichain many (omega (arith, many, more))
+    let facts = counted_bounds s.mode s.nodes i es lower (Some (length a)) a cert trail runs (by.finds.0.meets, refl) by.finds.0.once by.finds.1 by.first by.known by.wide
+    (omega (arith, many, floor_above s.nodes i (length es) raised alone)) (subst (IsLowerBound Interval i) (sym many) bound) (omega (arith, many, raised_below s.nodes i (length es) (length a) raised by.finds.2.0 by.finds.2.2))
     (cert_for s.nodes s.mode i lower cert counts (subst (λ n. IsCertFor s.nodes Interval i n cert) (sym many) shown)) (no_cut s.mode i cert other by.within) (λ _ none. absurd (let no' : ⊥ = cc in no')) spent in
     subst (λ n. SolvedRight s i (said Bounds (Some lower) (Some n) a cert (Some trail) runs)) (sym counted) (right_for s.mode s i _ counts facts listed)
 
 -- no answer is known, and the search for any was spent
-pub right_by_open : (s : Settings) (i : Instance) (es : List ℕ) (lower : ℕ) (cert : Cert) (trail : Trail) (runs : Option (List (List ℕ))) → CountsPaths s.mode → AreListed s i runs → IsSolvedBy s.nodes s.mode i es (Open trail)
-    → lower ≡ length es → IsCertFor s.nodes Interval i (length es) cert → is_cut cert ≡ false → SolvedRight s i (said Bounds (Some lower) None [] cert (Some trail) runs)
-right_by_open s i es lower cert trail runs counts listed by many shown other =
+pub right_by_open : (s : Settings) (i : Instance) (es : List ℕ) (lower : ℕ) (cert : Cert) (trail : Trail) (raised : Option Trail) (runs : Option (List (List ℕ))) → CountsPaths s.mode → AreListed s i runs → IsSolvedBy s.nodes s.mode i es (Open trail raised)
+    → lower ≡ floor_of (length es) raised → IsCertFor s.nodes Interval i (floor_of (length es) raised) cert → is_cut cert ≡ false → SolvedRight s i (said Bounds (Some lower) None [] cert (Some trail) runs)
+right_by_open s i es lower cert trail raised runs counts listed by many shown other =
+    let alone = raised_alone s.nodes i (length es) raised by.finds.2 in
+    let bound = floor_bounds s.nodes i es raised (with_ranges s.mode i by.valid) by.antichain alone in
     let spent = trail_for s.nodes s.mode i (decision_at_all Interval i) lower None trail by.finds.0 (all_same s.mode i counts) in
-    let facts = counted_bounds s.mode s.nodes i es lower None [] cert trail runs refl nothing_once (omega arith) by.first by.known by.wide by.antichain many tt
+    let facts = counted_bounds s.mode s.nodes i es lower None [] cert trail runs refl nothing_once (omega arith) by.first by.known by.wide
+    (omega (arith, many, floor_above s.nodes i (length es) raised alone)) (subst (IsLowerBound Interval i) (sym many) bound) tt
     (cert_for s.nodes s.mode i lower cert counts (subst (λ n. IsCertFor s.nodes Interval i n cert) (sym many) shown)) (no_cut s.mode i cert other by.within) (λ _ _. inr by.finds.1) spent in
     right_for s.mode s i _ counts facts listed
 

@@ -1,5 +1,5 @@
 -- What searches came to.
-use Rattle.std.specs.Prelude.{◌≡◌, ℕ, ◌+◌, ◌*◌, ◌≤◌, ◌<◌, ◌^◌, List, length, All, Option, Some, None}
+use Rattle.std.specs.Prelude.{◌≡◌, ℕ, ◌+◌, ◌*◌, ◌≤◌, ◌<◌, ◌^◌, List, length, All, Option, Some, None, IfSome}
 use Rattle.decomposition.specs.declared.Mode.{Mode}
 use Rattle.decomposition.specs.declared.Mode.TheVariants.{Interval}
 use Rattle.decomposition.specs.declared.Decision.{Decision}
@@ -47,6 +47,25 @@ pub record IsSpentBy (nodes : ℕ) (i : Instance) (d : Decision) (trail : Trail)
   pub spent : EndsSpent i d nodes
   pub small : IsSmallTrail trail
 
+-- the decision of a trail is refuted by its tokens, of which there are at most so many
+abbrev pub IsRefutedAlone : ℕ → Instance → Trail → Type 0
+IsRefutedAlone nodes i tree = IsRefutedBy nodes i tree.decision tree
+
+-- as many paths as the width, or more, are refuted where no error is allowed
+pub record IsRaised (nodes : ℕ) (i : Instance) (width : ℕ) (tree : Trail) : Type 0 where
+  pub refuted : IsRefutedAlone nodes i tree
+  pub limit : tree.decision.limit ≡ Some 0
+  pub above : width ≤ tree.decision.slots
+
+-- and no more than one fewer than can be needed are refuted
+abbrev pub IsRaisedWithin : ℕ → Instance → ℕ → Trail → Type 0
+IsRaisedWithin nodes i width tree = IsRaised nodes i width tree × (tree.decision.slots < edge_count i.graph + length i.rules)
+
+-- how many paths there must be: as many as the width, or one more than are refuted
+abbrev pub floor_of : ℕ → Option Trail → ℕ
+floor_of width None = width
+floor_of width (Some tree) = tree.decision.slots + 1
+
 -- what one search came to
 abbrev pub AttemptsAs : ℕ → Instance → Decision → Attempt → Type 0
 AttemptsAs nodes i d (Found a) = IsFoundFor i d a
@@ -68,7 +87,8 @@ AreFewPaths i a = length a ≤ edge_count i.graph + length i.rules
 abbrev pub StopsAt : ℕ → Instance → ℕ → ℕ → Ending → Type 0
 StopsAt nodes i width count Width = count ≤ width
 StopsAt nodes i width count (AtRefutation tree) = (width < count) × IsRefutedBy nodes i (decision_below Interval i count) tree
-StopsAt nodes i width count (AtBudget trail) = (width < count) × IsSpentBy nodes i (decision_below Interval i count) trail
+StopsAt nodes i width count (AtBudget trail raised) = (width < count) × IsSpentBy nodes i (decision_below Interval i count) trail
+    × IfSome raised (λ tree. IsRaised nodes i width tree × (tree.decision.slots + 1 < count))
 
 -- what is known when the searches for few paths have ended: an answer and why there is no further search, a crowd, or, where each edge
 -- carries what is taken at it, that nothing meets, or nothing
@@ -76,14 +96,15 @@ abbrev pub FindsAs : ℕ → Instance → ℕ → Finding → Type 0
 FindsAs nodes i width (Known a ending) = IsKnown Interval i a × AreFewPaths i a × StopsAt nodes i width (length a) ending
 FindsAs nodes i width (Crowded e cs) = IsCrowd i e cs × AreRisingRules cs
 FindsAs nodes i width (Never tree) = IsRefutedBy nodes i (decision_at_all Interval i) tree × EachCarriesTaken i
-FindsAs nodes i width (Open trail) = IsSpentBy nodes i (decision_at_all Interval i) trail × EachCarriesTaken i
+FindsAs nodes i width (Open trail raised) = IsSpentBy nodes i (decision_at_all Interval i) trail × EachCarriesTaken i
+    × IfSome raised (IsRaisedWithin nodes i width)
 
 -- how many paths are known, if an answer is
 abbrev pub count_of : Finding → Option ℕ
 count_of (Known a ending) = Some (length a)
 count_of (Crowded e cs) = None
 count_of (Never tree) = None
-count_of (Open trail) = None
+count_of (Open trail raised) = None
 
 -- what is known of an instance whose paths are counted: an antichain of as many edges as the width, what was found, and that it is no worse than the first answer
 pub record IsSolvedBy (nodes : ℕ) (mode : Mode) (i : Instance) (es : List ℕ) (finding : Finding) : Type 0 where

@@ -5,15 +5,15 @@ ghost use Rattle.decomposition.specs.declared.Mode.TheVariants.{Interval};
 ghost use Rattle.decomposition.specs.Graph.{Graph};
 ghost use Rattle.decomposition.specs.Instance.{Instance};
 ghost use Rattle.decomposition.specs.Width.{IsAntichain, IsWidth};
-ghost use Rattle.path_report.specs.Laws.{AreRisingEdges, AreRisingRuns, IsCertOf, IsFoundIn};
+ghost use Rattle.path_report.specs.Laws.{AreRisingEdges, AreRisingRuns, IsCertOf, IsFoundIn, IsSmallTrail};
 ghost use Rattle.path_report.specs.declared.report.Mark.TheVariants.{Infeasible};
 ghost use Rattle.flowpaths_cli.specs.declared.settings.Settings.{Settings as Given};
 ghost use Rattle.flowpaths_cli.specs.Right.{AreListed, CountsPaths, IsCertFor, SolvedRight, is_cut};
-ghost use Rattle.flowpaths_cli.specs.Searched.{IsSolvedBy};
+ghost use Rattle.flowpaths_cli.specs.Searched.{IsRaisedWithin, IsSolvedBy, floor_of};
 
 use crate::counting::{Ending, Finding};
 use dag_net::{Answer, IdLists, Ids};
-use path_report::{Cert, Mark, Solved};
+use path_report::{Cert, Mark, Solved, Trail};
 use std::alloc::Global;
 
 /// What is said by an antichain of as many edges as the width and by what the searches found.
@@ -25,15 +25,18 @@ pub fn solved_by(alloc: Global, finding: Finding, antichain: Ids, safe: Option<I
         Finding::Known { paths, ending } => known_by(paths, ending, antichain, safe),
         Finding::Crowded { edge, rules } => without_answer(alloc, Cert::Crowd(edge, rules), safe),
         Finding::Never(tree) => without_answer(alloc, Cert::Tree(tree), safe),
-        Finding::Open(trail) => Solved {
-            mark: Mark::Bounds,
-            lower: Some(antichain.len() as u64),
-            upper: None,
-            paths: Answer::new(alloc),
-            cert: cert_of(antichain),
-            trail: Some(trail),
-            safe,
-        },
+        Finding::Open { trail, raised } => {
+            let bound = bound_by(antichain, raised);
+            Solved {
+                mark: Mark::Bounds,
+                lower: Some(bound.lower),
+                upper: None,
+                paths: Answer::new(alloc),
+                cert: bound.cert,
+                trail: Some(trail),
+                safe,
+            }
+        }
     }
 }
 
@@ -43,11 +46,10 @@ fn known_by(paths: Answer, ending: Ending, antichain: Ids, safe: Option<IdLists>
     ensures found { (nodes : ℕ) (mode : AMode) (i : Instance) → IsSolvedBy nodes mode i antichain (Finding.Known paths ending) → IfSome safe (AreRisingRuns i.graph) → IsFoundIn i.graph result }
 {
     let upper = paths.len() as u64;
-    let width = antichain.len() as u64;
     match ending {
         Ending::Width => Solved {
             mark: Mark::Optimal,
-            lower: Some(width),
+            lower: Some(antichain.len() as u64),
             upper: Some(upper),
             paths,
             cert: cert_of(antichain),
@@ -63,14 +65,43 @@ fn known_by(paths: Answer, ending: Ending, antichain: Ids, safe: Option<IdLists>
             trail: None,
             safe,
         },
-        Ending::Spent(trail) => Solved {
-            mark: Mark::Bounds,
-            lower: Some(width),
-            upper: Some(upper),
-            paths,
+        Ending::Spent { trail, raised } => {
+            let bound = bound_by(antichain, raised);
+            Solved {
+                mark: Mark::Bounds,
+                lower: Some(bound.lower),
+                upper: Some(upper),
+                paths,
+                cert: bound.cert,
+                trail: Some(trail),
+                safe,
+            }
+        }
+    }
+}
+
+/// A lower bound, with what shows it.
+#[derive(Debug, Drop)]
+struct Bound {
+    lower: u64,
+    cert: Cert,
+}
+
+/// The bound that a refutation shows, where there is one, and else the width.
+fn bound_by(antichain: Ids, raised: Option<Trail>) -> Bound
+    ensures lower { result.lower ≡ floor_of (length antichain) raised }
+    ensures shows { (nodes : ℕ) (i : Instance) → IsWidth i (length antichain) → IsAntichain i antichain → IfSome raised (IsRaisedWithin nodes i (length antichain)) → IsCertFor nodes Interval i (floor_of (length antichain) raised) result.cert }
+    ensures rising { (g : Graph) → AreRisingEdges g antichain → IfSome raised IsSmallTrail → IsCertOf g result.cert }
+    ensures other { is_cut result.cert ≡ false }
+{
+    match raised {
+        Some(tree) => Bound {
+            lower: u64::from(tree.decision.slots) + 1,
+            cert: Cert::Tree(tree),
+        },
+        None => Bound {
+            lower: antichain.len() as u64,
             cert: cert_of(antichain),
-            trail: Some(trail),
-            safe,
         },
     }
 }

@@ -1,10 +1,10 @@
 //! Searches for few paths, in the models that count them.
-ghost use Rattle.std.specs.Prelude.{◌≡◌, ◌≤◌, ◌+◌, ◌-◌, ◌<◌, length, Some, IfOk, IfSome, IsSomeAnd};
+ghost use Rattle.std.specs.Prelude.{◌≡◌, ◌≤◌, ◌+◌, ◌-◌, ◌<◌, ℕ, length, Some, None, IfOk, IfSome, IsSomeAnd};
 ghost use Rattle.decomposition.specs.declared.Mode.TheVariants.{Interval};
-ghost use Rattle.decomposition.specs.Instance.{IsInstance, greatest_hi};
+ghost use Rattle.decomposition.specs.Instance.{Instance, IsInstance, greatest_hi};
 ghost use Rattle.flow_models.specs.Problem.{instance};
 ghost use Rattle.flowpaths_cli.specs.Numbers.{most_nodes};
-ghost use Rattle.flowpaths_cli.specs.Searched.{AreFewPaths, FindsAs, IsKnown, count_of};
+ghost use Rattle.flowpaths_cli.specs.Searched.{AreFewPaths, FindsAs, IsKnown, IsRaised, StopsAt, count_of, floor_of};
 
 use crate::crowds::{Crowd, find_crowd};
 use crate::searching::{Attempt, search_once};
@@ -21,8 +21,11 @@ pub enum Ending {
     Width,
     /// One path fewer is refuted.
     Refuted(Trail),
-    /// The search for one path fewer was spent.
-    Spent(Trail),
+    /// The search for one path fewer was spent. More paths than the width are refuted, or nothing is.
+    Spent {
+        trail: Trail,
+        raised: Option<Trail>,
+    },
 }
 
 /// What is known when the searches have ended.
@@ -34,12 +37,15 @@ pub enum Finding {
     Crowded { edge: u32, rules: Ids },
     /// As many paths as can be needed are refuted.
     Never(Trail),
-    /// The search for as many paths as can be needed was spent.
-    Open(Trail),
+    /// The search for as many paths as can be needed was spent. At least as many paths as the width are refuted, or nothing is.
+    Open {
+        trail: Trail,
+        raised: Option<Trail>,
+    },
 }
 
-/// Searches for few paths, from a first answer if there is one.
-pub fn find_fewest(
+/// Searches for few paths by rule lists, from a first answer if there is one.
+pub fn count_by_lists(
     alloc: Global,
     net: &Net,
     problem: &Problem,
@@ -58,7 +64,7 @@ pub fn find_fewest(
     ensures fewer { IfOk result (λ found. IfSome first (λ a. IsSomeAnd (count_of found) (λ count. count ≤ length a))) }
 {
     match first {
-        Some(paths) => find_fewer(alloc, net, problem, nodes, width, paths),
+        Some(paths) => find_fewer(alloc, net, problem, nodes, width, None, paths),
         None => find_any(alloc, net, problem, nodes, width),
     }
 }
@@ -87,19 +93,44 @@ fn find_any(
         limit: Some(0),
     };
     match search_once(alloc, net, problem, nodes, decision)? {
-        Attempt::Found(paths) => find_fewer(alloc, net, problem, nodes, width, paths),
+        Attempt::Found(paths) => find_fewer(alloc, net, problem, nodes, width, None, paths),
         Attempt::Refuted(tree) => Ok(Finding::Never(tree)),
-        Attempt::Spent(trail) => Ok(Finding::Open(trail)),
+        Attempt::Spent(trail) => Ok(Finding::Open {
+            trail,
+            raised: None,
+        }),
     }
 }
 
-/// Searches for fewer and fewer paths, until there are as many as the width, or a search finds none or is spent.
-fn find_fewer(
+/// The number of paths that there must be: the width, or one more than are refuted.
+fn floor_of(width: usize, raised: &Option<Trail>) -> usize
+    ensures { result ≡ floor_of width raised.now }
+{
+    match raised {
+        Some(tree) => tree.decision.slots as usize + 1,
+        None => width,
+    }
+}
+
+/// Why there are no fewer paths than there must be.
+fn ending_at_floor(raised: Option<Trail>) -> Ending
+    ensures { (nodes : ℕ) (i : Instance) (width count : ℕ) → IfSome raised (λ tree. IsRaised nodes i width tree × (tree.decision.slots < count)) → count ≤ floor_of width raised
+        → StopsAt nodes i width count result }
+{
+    match raised {
+        Some(tree) => Ending::Refuted(tree),
+        None => Ending::Width,
+    }
+}
+
+/// Searches for fewer and fewer paths, until there are as many as there must be, or a search finds none or is spent.
+pub fn find_fewer(
     alloc: Global,
     net: &Net,
     problem: &Problem,
     nodes: u32,
     width: usize,
+    raised: Option<Trail>,
     first: Answer,
 ) -> Result<Finding, AllocError>
     requires valid { IsInstance Interval (instance net.now problem.now) }
@@ -107,14 +138,16 @@ fn find_fewer(
     requires least { 1 ≤ nodes }
     requires most { nodes ≤ most_nodes }
     requires few_rules { length problem.now.rules ≤ 32 }
+    requires raised { IfSome raised (IsRaised nodes (instance net.now problem.now) width) }
     requires known { IsKnown Interval (instance net.now problem.now) first }
     requires few { AreFewPaths (instance net.now problem.now) first }
     ensures finds { IfOk result (FindsAs nodes (instance net.now problem.now) width) }
     ensures fewer { IfOk result (λ found. IsSomeAnd (count_of found) (λ count. count ≤ length first)) }
 {
     prove!(net.edges() <= 4096);
+    let floor = floor_of(width, &raised);
     let mut paths = first;
-    while paths.len() > width {
+    while paths.len() > floor {
         let decision = Decision {
             slots: paths.len() as u32 - 1,
             limit: Some(0),
@@ -126,11 +159,11 @@ fn find_fewer(
                 return Ok(Finding::Known { paths, ending });
             }
             Attempt::Spent(trail) => {
-                let ending = Ending::Spent(trail);
+                let ending = Ending::Spent { trail, raised };
                 return Ok(Finding::Known { paths, ending });
             }
         }
     }
-    let ending = Ending::Width;
+    let ending = ending_at_floor(raised);
     Ok(Finding::Known { paths, ending })
 }

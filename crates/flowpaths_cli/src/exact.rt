@@ -14,7 +14,7 @@ ghost use Rattle.flowpaths_cli.specs.Firsts.{IsFirstOfFlow};
 
 use crate::bounds::{lower_bounds, widest_antichain};
 use crate::counted::solved_by;
-use crate::counting::find_fewest;
+use crate::narrowing::find_fewest;
 use crate::settings::Settings;
 use dag_net::{Answer, IdLists, Net};
 use flow_models::Problem;
@@ -44,7 +44,7 @@ pub fn solve_exact(
     let safe = safe_runs(alloc, net, settings.safe, &flow)?;
     let first = first_answer(alloc, net, &flow, &problem.rules)?;
     let antichain = widest_antichain(alloc, net, &problem.ranges)?;
-    let finding = find_fewest(alloc, net, problem, settings.nodes, antichain.len(), first)?;
+    let finding = find_fewest(alloc, net, problem, settings.nodes, &antichain, first)?;
     Ok(solved_by(alloc, finding, antichain, safe))
 }
 

@@ -15,7 +15,7 @@ ghost use Rattle.flowpaths_cli.specs.Firsts.{IsWithin};
 
 use crate::bounds::{upper_bounds, widest_antichain};
 use crate::counted::{solved_by, without_answer};
-use crate::counting::find_fewest;
+use crate::narrowing::find_fewest;
 use crate::room::flow_with_room;
 use crate::settings::Settings;
 use crate::thin::thin_flow;
@@ -56,7 +56,7 @@ pub fn solve_interval(
         Within::Cut(side, vertices) => Ok(without_answer(alloc, Cert::Cut(side, vertices), None)),
         Within::First(first) => {
             let antichain = widest_antichain(alloc, net, &problem.ranges)?;
-            let finding = find_fewest(alloc, net, problem, settings.nodes, antichain.len(), first)?;
+            let finding = find_fewest(alloc, net, problem, settings.nodes, &antichain, first)?;
             Ok(solved_by(alloc, finding, antichain, None))
         }
     }

@@ -4,6 +4,8 @@
 mod accepted;
 mod bounds;
 mod call;
+mod checked;
+mod closer;
 mod command;
 mod counted;
 mod counting;
@@ -14,6 +16,7 @@ mod generated;
 mod given;
 mod interval;
 mod least_error;
+mod narrowing;
 mod numbers;
 mod reading;
 mod reporting;

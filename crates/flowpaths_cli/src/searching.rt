@@ -54,7 +54,7 @@ pub fn search_once(
 }
 
 /// A decision, and a copy of the tokens of its search.
-fn trail_of(alloc: Global, decision: Decision, tokens: &[Token]) -> Result<Trail, AllocError>
+pub fn trail_of(alloc: Global, decision: Decision, tokens: &[Token]) -> Result<Trail, AllocError>
     ensures decision { IfOk result (λ trail. trail.decision ≡ decision) }
     ensures tokens { IfOk result (λ trail. trail.tokens ≡ tokens.now) }
 {

@@ -1,11 +1,11 @@
 -- Each finding is right in its own way.
-use Rattle.std.proofs.Common.{ℕ, List, Some, None, sym, subst, arith}
+use Rattle.std.proofs.Common.{ℕ, List, Some, None, length, sym, subst, arith}
 use Rattle.path_report.specs.Laws.{IsFoundIn}
 use Rattle.path_report.specs.declared.report.Mark.TheVariants.{Bounds}
 use Rattle.flowpaths_cli.specs.Right.{SolvedRight}
 use Rattle.flowpaths_cli.specs.Searched.{IsSolvedBy}
 use Rattle.flowpaths_cli.proofs.CountedRight.{said}
-use Rattle.flowpaths_cli.proofs.Solved.{none_in, right_by_crowd, right_by_never, right_by_open}
+use Rattle.flowpaths_cli.proofs.Solved.{none_in, raised_small, right_by_crowd, right_by_never, right_by_open}
 use Rattle.flowpaths_cli.proofs.counted.solved_by.Goals as goal
 
 pub returns-in-Known-clause-found : goal.returns-in-Known-clause-found
@@ -24,11 +24,11 @@ returns-in-Never-clause-right c s i counts listed by =
 pub returns-in-Open-clause-right : goal.returns-in-Open-clause-right
 returns-in-Open-clause-right c s i counts listed by =
     let by' = subst (IsSolvedBy s.nodes s.mode i c.args.antichain) c.in-Open.is by in
-    subst (λ (ps : List (List ℕ × ℕ)). SolvedRight s i (said Bounds (Some c.len.result) None ps c.cert_of.result (Some c.in-Open.trail) c.args.safe)) (sym c.new.ensures)
-    (right_by_open s i c.args.antichain c.len.result c.cert_of.result c.in-Open.trail c.args.safe counts listed by' c.len.ensures (c.cert_of.ensures.shows s.nodes i by.wide by.antichain) c.cert_of.ensures.other)
+    subst (λ (ps : List (List ℕ × ℕ)). SolvedRight s i (said Bounds (Some c.bound_by.result.lower) None ps c.bound_by.result.cert (Some c.in-Open.trail) c.args.safe)) (sym c.new.ensures)
+    (right_by_open s i c.args.antichain c.bound_by.result.lower c.bound_by.result.cert c.in-Open.trail c.in-Open.raised c.args.safe counts listed by' c.bound_by.ensures.lower (c.bound_by.ensures.shows s.nodes i by.wide by.antichain by'.finds.2) c.bound_by.ensures.other)
 
 pub returns-in-Open-clause-found : goal.returns-in-Open-clause-found
 returns-in-Open-clause-found c nodes mode i by rising =
     let by' = subst (IsSolvedBy nodes mode i c.args.antichain) c.in-Open.is by in
-    subst (λ (ps : List (List ℕ × ℕ)). IsFoundIn i.graph (said Bounds (Some c.len.result) None ps c.cert_of.result (Some c.in-Open.trail) c.args.safe)) (sym c.new.ensures)
-    (none_in i.graph Bounds (Some c.len.result) c.cert_of.result (Some c.in-Open.trail) c.args.safe rising (omega arith) (c.cert_of.ensures.rising i.graph by.rising) by'.finds.0.small)
+    subst (λ (ps : List (List ℕ × ℕ)). IsFoundIn i.graph (said Bounds (Some c.bound_by.result.lower) None ps c.bound_by.result.cert (Some c.in-Open.trail) c.args.safe)) (sym c.new.ensures)
+    (none_in i.graph Bounds (Some c.bound_by.result.lower) c.bound_by.result.cert (Some c.in-Open.trail) c.args.safe rising (omega arith) (c.bound_by.ensures.rising i.graph by.rising (raised_small nodes i (length c.args.antichain) c.in-Open.raised by'.finds.2)) by'.finds.0.small)
