@@ -61,7 +61,8 @@ impl Budget {
 
     /// A purse for routing at the width.
     pub fn lend_for_routing(&self) -> Purse {
-        self.purse.lend(u64::from(self.tokens).saturating_mul(ROUTING))
+        self.purse
+            .lend(u64::from(self.tokens).saturating_mul(ROUTING))
     }
 
     /// Whether nothing more may be spent.

@@ -29,7 +29,14 @@ pub fn decide(
     budget: &mut Budget,
 ) -> Result<Decided, AllocError> {
     let slots = decision.slots;
-    let mut engine = Engine::prepare(alloc, ground, problem, slots, decision.limit, budget.tokens())?;
+    let mut engine = Engine::prepare(
+        alloc,
+        ground,
+        problem,
+        slots,
+        decision.limit,
+        budget.tokens(),
+    )?;
     for &profile in profiles {
         let mut purse = budget.lend(DECISION);
         let ending = engine.run(profile, &mut purse);

@@ -7,7 +7,7 @@ use dag_net::{Answer, Net};
 use decomposition::Decision;
 use fewer_answers::Finder;
 use flow_models::Problem;
-use near_answers::{Descent, Routed, Rounds, route};
+use near_answers::{Descent, Rounds, Routed, route};
 use search_rooms::{Amounts, Purse};
 use std::alloc::{AllocError, Global};
 use tree_search::{Ground, Profile};

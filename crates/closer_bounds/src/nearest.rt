@@ -141,8 +141,7 @@ impl<'a> Nearest<'a> {
 
     /// Descents of several seeds.
     fn descend(&mut self, alloc: Global, budget: &mut Budget) -> Result<(), AllocError> {
-        let mut descent =
-            Descent::prepare(alloc, self.ground.view(), self.problem, self.paths)?;
+        let mut descent = Descent::prepare(alloc, self.ground.view(), self.problem, self.paths)?;
         let mut purse = budget.lend(DESCENT);
         for seed in 1..=SEEDS {
             let how = Rounds {
@@ -216,7 +215,14 @@ impl<'a> Nearest<'a> {
             limit,
         };
         let profiles = [Profile::Eighths, Profile::InTurn];
-        match decide(alloc, self.ground, self.problem, decision, &profiles, budget)? {
+        match decide(
+            alloc,
+            self.ground,
+            self.problem,
+            decision,
+            &profiles,
+            budget,
+        )? {
             Decided::Refuted(tree) => self.raise(tree),
             Decided::Found(answer) => {
                 let error = error_of(alloc, self.problem, &answer)?;

@@ -1,5 +1,5 @@
 -- What one search comes to, said of the instance and of the decision that it was given.
-use Rattle.std.proofs.Common.{◌≡◌, ℕ, ◌*◌, ◌≤◌, ◌<◌, ◌^◌, List, [], ◌∷◌, Bool, true, false, cond, nat_le, nat_lt, length, sym, subst, arith, leb-true, ltb-true}
+use Rattle.std.proofs.Common.{◌≡◌, ℕ, ◌*◌, ◌≤◌, ◌<◌, ◌^◌, List, [], ◌∷◌, Bool, true, false, cond, nat_le, nat_lt, length, refl, sym, subst, arith, leb-true, ltb-true}
 use Rattle.std.specs.Prelude.{All, Some}
 use Rattle.std.proofs.lemmas.List.Sums.{sum_by-le, sum_by-le-sum_by}
 use Rattle.decomposition.specs.declared.Mode.{Mode}
@@ -95,3 +95,13 @@ spent_by nodes i d trail asks few low most rules short is spent =
       spent = spent;
       small = trail_small d nodes trail asks few low most short (tokens_small i d trail.tokens (spent.first ∷ spent.others) few rules left);
     }
+
+-- a refutation by any tokens
+pub refuted_by_tokens : (nodes : ℕ) (i : Instance) (trail : Trail) → trail.decision.slots < 2 ^ 32 → IsSmall trail.decision.limit → nodes < 2 ^ 64 → length i.rules < 2 ^ 32
+    → length trail.tokens ≤ nodes → IsRefutation i trail.decision trail.tokens → IsRefutedBy nodes i trail.decision trail
+refuted_by_tokens nodes i trail few low most rules short refuted = record {
+  decision = refl;
+  refuted = refuted;
+  few = short;
+  small = trail_small trail.decision nodes trail refl few low most short (tokens_small i trail.decision trail.tokens [] few rules refuted);
+}

@@ -30,7 +30,7 @@ pub raised_apart : (nodes : ℕ) (i : Instance) (width : ℕ) (tree : Trail) (a 
 raised_apart nodes i width tree a valid raised known = refuted_apart i tree.decision tree.tokens a valid raised.refuted.refuted raised.limit known.meets
 
 -- a decision by its parts
-asks : ℕ → Option ℕ → Decision
+abbrev asks : ℕ → Option ℕ → Decision
 asks slots limit = record { slots = slots; limit = limit }
 
 -- a decision without error is that of so many paths
@@ -54,7 +54,7 @@ raised_shown nodes i width tree wide (raised, within) =
     let refuted = refuted_below nodes i width tree (tree.decision.slots + 1) raised (omega arith) in
     record {
       decision = refuted.decision;
-      bounding = record { positive = omega arith; reach = omega (arith, within); refuted = subst (λ e. IsRefutation i e tree.tokens) refuted.decision refuted.refuted };
+      bounding = record { positive = omega arith; reach = omega (arith, within); refuted = refuted.refuted };
       few = refuted.few;
       not_width = λ _ other. omega (arith, raised.above, one_width i (tree.decision.slots + 1) width other wide);
     }
@@ -67,3 +67,13 @@ floor_bounds nodes i es (Some tree) valid chain raised = λ a ok. omega (arith, 
 pub floor_above : (nodes : ℕ) (i : Instance) (width : ℕ) (raised : Option Trail) → IfSome raised (IsRaised nodes i width) → width ≤ floor_of width raised
 floor_above nodes i width None raised = omega arith
 floor_above nodes i width (Some tree) raised = omega (arith, raised.above)
+
+-- an answer has more paths than are refuted
+pub raised_over : (nodes : ℕ) (i : Instance) (width : ℕ) (raised : Option Trail) (a : List (List ℕ × ℕ)) → IsInstance Interval i → IfSome raised (IsRaised nodes i width) → IsKnown Interval i a
+    → IfSome raised (λ tree. IsRaised nodes i width tree × (tree.decision.slots < length a))
+raised_over nodes i width None a valid raised known = tt
+raised_over nodes i width (Some tree) a valid raised known = (raised, raised_apart nodes i width tree a valid raised known)
+
+-- with no refutation the width shows the bound, and it speaks of the graph
+pub none_shown : (nodes : ℕ) (i : Instance) (es : List ℕ) (raised : Option Trail) (cert : Cert) → raised ≡ None → IsCertFor nodes Interval i (length es) cert → IsCertFor nodes Interval i (floor_of (length es) raised) cert
+none_shown nodes i es raised cert none shown = subst (λ r. IsCertFor nodes Interval i (floor_of (length es) r) cert) (sym none) shown

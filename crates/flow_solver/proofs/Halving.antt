@@ -21,7 +21,7 @@ use Rattle.flow_solver.specs.Booking.{AreBookedFor, upper_bound}
 use Rattle.flow_solver.specs.declared.searching.Attempt.{Attempt}
 use Rattle.flow_solver.specs.declared.searching.Attempt.TheVariants.{Found, Refuted, Spent}
 use Rattle.flow_solver.specs.Halved.{IsBetween}
-use Rattle.flow_solver.specs.Searched.{IsFoundFor, IsKnown, IsNoWorseThanBooked, IsRefutedBy, any_error}
+use Rattle.flow_solver.specs.Searched.{IsFoundFor, IsKnown, IsNoWorseThanBooked, IsRefutedAlone, IsRefutedBy, any_error}
 use Rattle.flow_solver.proofs.Bounded.{entries_small, error-le}
 
 -- the decision that asks for at most k paths with an error within a limit
@@ -84,6 +84,14 @@ between_refuted nodes k i a lower upper limit cert tree valid between low refute
       speaks = refuted.small;
       bound = trees_bound (Abs k) i (limit + 1) tree.tokens valid bounding;
     }
+
+-- the same for a tree of that decision
+pub between_raised : (nodes k : ℕ) (i : Instance) (a : List (List ℕ × ℕ)) (lower upper limit : ℕ) (cert : Cert) (tree : Trail) → IsInstance (Abs k) i → IsBetween nodes k i a lower upper cert → limit < upper → IsRefutedAlone nodes i tree
+    → tree.decision.slots ≡ k → tree.decision.limit ≡ Some limit → IsBetween nodes k i a (limit + 1) upper (Tree tree)
+between_raised nodes k i a lower upper limit cert tree valid between low refuted slots is =
+    let same : tree.decision ≡ half k limit = ap (λ l. record { slots = tree.decision.slots; limit = l }) is ∙ ap (λ n. half n limit) slots in
+    between_refuted nodes k i a lower upper limit cert tree valid between low
+    (record { decision = same; refuted = subst (λ d. IsRefutation i d tree.tokens) same refuted.refuted; few = refuted.few; small = refuted.small })
 
 -- booked paths put on an edge at most as many units as there are
 units-le : (ps : List (List ℕ)) (e : ℕ) → weight_on (with_unit ps) e ≤ length ps

@@ -1,5 +1,5 @@
 //! The bounds of a problem as lists, and what they say of the width.
-ghost use Rattle.std.specs.Prelude.{◌≡◌, nat_le, nat_lt, length, map, IfOk, IsTrue};
+ghost use Rattle.std.specs.Prelude.{◌≡◌, ◌<◌, ◌^◌, nat_le, nat_lt, length, map, IfOk, IsTrue};
 ghost use Rattle.decomposition.specs.Answer.{is_ordered};
 ghost use Rattle.decomposition.specs.Graph.{edge_count};
 ghost use Rattle.decomposition.specs.Instance.{range_at};
@@ -37,12 +37,14 @@ pub fn widest_antichain(alloc: Global, net: &Net, ranges: &Ranges) -> Result<Ids
     ensures width { IfOk result (λ es. IsWidthOf net.now (λ e. nat_le 1 (range_at ranges.now e).lo) (length es)) }
     ensures antichain { IfOk result (IsAntichainOf net.now (λ e. nat_le 1 (range_at ranges.now e).lo)) }
     ensures rising { IfOk result (λ es. IsTrue (is_ordered nat_lt es)) }
+    ensures few { IfOk result (λ es. length es < 2 ^ 64) }
 {
     let needed = needed_edges(alloc, ranges)?;
     let Width {
         cover: _,
         antichain,
     } = width(alloc, net, &needed)?;
+    prove!(antichain.len() <= usize::MAX);
     Ok(antichain)
 }
 

@@ -1,10 +1,11 @@
 //! What a search gives that is trusted for nothing: it counts only after it was checked.
-ghost use Rattle.std.specs.Prelude.{◌≡◌, ◌≤◌, ◌<◌, ◌^◌, ◌↔◌, nat_le, length, IfOk, IfSome, IsTrue};
+ghost use Rattle.std.specs.Prelude.{◌≡◌, ◌≤◌, ◌↔◌, nat_le, length, IfOk, IfSome, IsTrue};
 ghost use Rattle.std.specs.List.{list_all};
 ghost use Rattle.decomposition.specs.declared.Mode.{Mode as AMode};
+ghost use Rattle.decomposition.specs.Certificates.{IsWithin};
 ghost use Rattle.decomposition.specs.Graph.{edge_count};
 ghost use Rattle.decomposition.specs.Held.{Settles};
-ghost use Rattle.decomposition.specs.Instance.{IsInstance, cap, greatest_hi};
+ghost use Rattle.decomposition.specs.Instance.{IsInstance, greatest_hi};
 ghost use Rattle.flow_models.specs.Problem.{instance};
 ghost use Rattle.flow_solver.specs.Asked.{most_nodes};
 ghost use Rattle.flow_solver.specs.Searched.{IsFoundFor, IsRefutedAlone};
@@ -20,7 +21,7 @@ use std::alloc::{AllocError, Global};
 
 /// Whether no path is heavier than the cap.
 fn are_light(answer: &Answer, cap: u64) -> bool
-    ensures { result ≡ list_all (λ entry. nat_le entry.1 cap) answer.now }
+    ensures { IsTrue result ↔ IsTrue (list_all (λ entry. nat_le entry.1 cap) answer.now) }
 {
     for i in 0..answer.len() {
         if answer.weight(i) > cap {

@@ -1,5 +1,5 @@
 //! Closer bounds on the number of paths, by a search that is trusted for nothing.
-ghost use Rattle.std.specs.Prelude.{◌≡◌, ◌≤◌, ◌<◌, ◌×◌, Some, length, IfOk, IfSome, IsTrue};
+ghost use Rattle.std.specs.Prelude.{◌≡◌, ◌≤◌, ◌<◌, Some, length, IfOk, IfSome, IsTrue};
 ghost use Rattle.decomposition.specs.declared.Mode.TheVariants.{Interval};
 ghost use Rattle.decomposition.specs.Instance.{IsInstance, greatest_hi};
 ghost use Rattle.flow_models.specs.Problem.{instance};
@@ -35,7 +35,7 @@ pub fn look_closer(
     requires most { counted.nodes ≤ most_nodes }
     requires few_rules { length problem.now.rules ≤ 32 }
     ensures paths { IfOk result (λ c. IfSome c.paths (IsFoundFor (instance net.now problem.now) (record { slots = most; limit = Some 0 }))) }
-    ensures raised { IfOk result (λ c. IfSome c.raised (λ tree. IsRaised counted.nodes (instance net.now problem.now) (length counted.antichain.now) tree × (tree.decision.slots ≤ most))) }
+    ensures raised { IfOk result (λ c. IfSome c.raised (λ tree. IsRaised counted.entry.nodes (instance net.now problem.now) (length counted.entry.antichain.now) tree × (tree.decision.slots ≤ most))) }
 {
     let found = closer_fewest(alloc, net, problem, counted)?;
     let decision = Decision {

@@ -22,10 +22,7 @@ pub enum Ending {
     /// One path fewer is refuted.
     Refuted(Trail),
     /// The search for one path fewer was spent. More paths than the width are refuted, or nothing is.
-    Spent {
-        trail: Trail,
-        raised: Option<Trail>,
-    },
+    Spent { trail: Trail, raised: Option<Trail> },
 }
 
 /// What is known when the searches have ended.
@@ -38,10 +35,7 @@ pub enum Finding {
     /// As many paths as can be needed are refuted.
     Never(Trail),
     /// The search for as many paths as can be needed was spent. At least as many paths as the width are refuted, or nothing is.
-    Open {
-        trail: Trail,
-        raised: Option<Trail>,
-    },
+    Open { trail: Trail, raised: Option<Trail> },
 }
 
 /// Searches for few paths by rule lists, from a first answer if there is one.
@@ -112,18 +106,78 @@ fn floor_of(width: usize, raised: &Option<Trail>) -> usize
     }
 }
 
-/// Why there are no fewer paths than there must be.
-fn ending_at_floor(raised: Option<Trail>) -> Ending
-    ensures { (nodes : ℕ) (i : Instance) (width count : ℕ) → IfSome raised (λ tree. IsRaised nodes i width tree × (tree.decision.slots < count)) → count ≤ floor_of width raised
-        → StopsAt nodes i width count result }
-{
-    match raised {
-        Some(tree) => Ending::Refuted(tree),
-        None => Ending::Width,
-    }
+/// Paths, and why there is no search for fewer.
+#[derive(Debug, Drop)]
+struct Fewest {
+    paths: Answer,
+    ending: Ending,
 }
 
 /// Searches for fewer and fewer paths, until there are as many as there must be, or a search finds none or is spent.
+fn search_down(
+    alloc: Global,
+    net: &Net,
+    problem: &Problem,
+    nodes: u32,
+    floor: usize,
+    first: Answer,
+) -> Result<Fewest, AllocError>
+    requires valid { IsInstance Interval (instance net.now problem.now) }
+    requires cap { problem.now.cap ≡ greatest_hi problem.now.ranges }
+    requires least { 1 ≤ nodes }
+    requires most { nodes ≤ most_nodes }
+    requires few_rules { length problem.now.rules ≤ 32 }
+    requires known { IsKnown Interval (instance net.now problem.now) first }
+    requires few { AreFewPaths (instance net.now problem.now) first }
+    ensures known { IfOk result (λ fewest. IsKnown Interval (instance net.now problem.now) fewest.paths × AreFewPaths (instance net.now problem.now) fewest.paths) }
+    ensures stops { IfOk result (λ fewest. StopsAt nodes (instance net.now problem.now) floor (length fewest.paths) fewest.ending) }
+    ensures fewer { IfOk result (λ fewest. length fewest.paths ≤ length first) }
+{
+    prove!(net.edges() <= 4096);
+    let mut paths = first;
+    while paths.len() > floor {
+        let decision = Decision {
+            slots: paths.len() as u32 - 1,
+            limit: Some(0),
+        };
+        match search_once(alloc, net, problem, nodes, decision)? {
+            Attempt::Found(fewer) => paths = fewer,
+            Attempt::Refuted(tree) => {
+                let ending = Ending::Refuted(tree);
+                return Ok(Fewest { paths, ending });
+            }
+            Attempt::Spent(trail) => {
+                let ending = Ending::Spent {
+                    trail,
+                    raised: None,
+                };
+                return Ok(Fewest { paths, ending });
+            }
+        }
+    }
+    let ending = Ending::Width;
+    Ok(Fewest { paths, ending })
+}
+
+/// The ending where a refutation, if there is one, shows how many paths there must be.
+fn ending_over(ending: Ending, raised: Option<Trail>) -> Ending
+    ensures { (nodes : ℕ) (i : Instance) (width count : ℕ) → IfSome raised (λ tree. IsRaised nodes i width tree × (tree.decision.slots < count))
+        → StopsAt nodes i (floor_of width raised) count ending → StopsAt nodes i width count result }
+{
+    let Some(tree) = raised else {
+        return ending;
+    };
+    match ending {
+        Ending::Width => Ending::Refuted(tree),
+        Ending::Refuted(one_fewer) => Ending::Refuted(one_fewer),
+        Ending::Spent { trail, raised: _ } => Ending::Spent {
+            trail,
+            raised: Some(tree),
+        },
+    }
+}
+
+/// Searches for fewer paths, down to the width or to one more than are refuted.
 pub fn find_fewer(
     alloc: Global,
     net: &Net,
@@ -144,26 +198,8 @@ pub fn find_fewer(
     ensures finds { IfOk result (FindsAs nodes (instance net.now problem.now) width) }
     ensures fewer { IfOk result (λ found. IsSomeAnd (count_of found) (λ count. count ≤ length first)) }
 {
-    prove!(net.edges() <= 4096);
     let floor = floor_of(width, &raised);
-    let mut paths = first;
-    while paths.len() > floor {
-        let decision = Decision {
-            slots: paths.len() as u32 - 1,
-            limit: Some(0),
-        };
-        match search_once(alloc, net, problem, nodes, decision)? {
-            Attempt::Found(fewer) => paths = fewer,
-            Attempt::Refuted(tree) => {
-                let ending = Ending::Refuted(tree);
-                return Ok(Finding::Known { paths, ending });
-            }
-            Attempt::Spent(trail) => {
-                let ending = Ending::Spent { trail, raised };
-                return Ok(Finding::Known { paths, ending });
-            }
-        }
-    }
-    let ending = ending_at_floor(raised);
+    let Fewest { paths, ending } = search_down(alloc, net, problem, nodes, floor, first)?;
+    let ending = ending_over(ending, raised);
     Ok(Finding::Known { paths, ending })
 }

@@ -12,10 +12,10 @@ ghost use Rattle.flow_solver.specs.Right.{SolvedRight};
 ghost use Rattle.flow_solver.specs.Asked.{MayBeAsked};
 ghost use Rattle.flow_solver.specs.Firsts.{IsFirstOfFlow};
 
+use crate::asked::Asked;
 use crate::bounds::{lower_bounds, widest_antichain};
 use crate::counted::solved_by;
 use crate::narrowing::find_fewest;
-use crate::asked::Asked;
 use dag_net::{Answer, IdLists, Net};
 use flow_models::Problem;
 use greedy_paths::{GreedyFault, decompose, decompose_with};

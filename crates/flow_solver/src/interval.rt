@@ -13,11 +13,11 @@ ghost use Rattle.flow_solver.specs.Right.{SolvedRight};
 ghost use Rattle.flow_solver.specs.Asked.{MayBeAsked};
 ghost use Rattle.flow_solver.specs.Firsts.{IsWithin};
 
+use crate::asked::Asked;
 use crate::bounds::{upper_bounds, widest_antichain};
 use crate::counted::{solved_by, without_answer};
 use crate::narrowing::find_fewest;
 use crate::room::flow_with_room;
-use crate::asked::Asked;
 use crate::thin::thin_flow;
 use dag_net::{Answer, Ids, Net};
 use decomposition::Side;

@@ -11,11 +11,11 @@ ghost use Rattle.flow_solver.specs.Asked.{MayBeAsked};
 ghost use Rattle.flow_solver.specs.Searched.{AttemptsAs, IsFoundFor, IsNoWorseThanBooked, IsRefutedAlone, IsSpentBy, any_error};
 ghost use Rattle.flow_solver.specs.Halved.{HalvesTo, IsHalvedFor, IsHalving, steps_left};
 
+use crate::asked::Asked;
 use crate::bounds::lower_bounds;
 use crate::checked::{checked_answer, checked_tree};
 use crate::counted::without_answer;
 use crate::searching::{Attempt, search_once};
-use crate::asked::Asked;
 use crate::widened::with_widest;
 use closer_bounds::{Weighed, closer_nearest};
 use dag_net::{Answer, Net};
@@ -84,6 +84,25 @@ fn first_attempt(
         let paths = with_widest(alloc, net, &weights, booked, k)?;
         return Ok(Attempt::Found(paths.tidy(alloc)?));
     }
+    attempt_any(alloc, net, problem, nodes, k)
+}
+
+/// What a search for at most k paths with any error comes to, and where it is spent a search for closer bounds.
+fn attempt_any(
+    alloc: Global,
+    net: &Net,
+    problem: &Problem,
+    nodes: u32,
+    k: u32,
+) -> Result<Attempt, AllocError>
+    requires valid { IsInstance (Abs k) (instance net.now problem.now) }
+    requires cap { problem.now.cap ≡ greatest_hi problem.now.ranges }
+    requires least { 1 ≤ nodes }
+    requires most { nodes ≤ most_nodes }
+    requires few { k ≤ 64 }
+    requires few_rules { length problem.now.rules ≤ 32 }
+    ensures { IfOk result (AttemptsAs nodes (instance net.now problem.now) (any_error k)) }
+{
     let decision = Decision {
         slots: k,
         limit: None,
@@ -128,12 +147,7 @@ fn attempt_closer(
 }
 
 /// An answer, where there is one; else a refutation of the decision, where there is one; else the trail.
-fn first_of(
-    decision: Decision,
-    paths: Option<Answer>,
-    tree: Option<Trail>,
-    trail: Trail,
-) -> Attempt
+fn first_of(decision: Decision, paths: Option<Answer>, tree: Option<Trail>, trail: Trail) -> Attempt
     ensures { (nodes : ℕ) (i : Instance) → IfSome paths (IsFoundFor i decision) → IfSome tree (IsRefutedAlone nodes i) → IsSpentBy nodes i decision trail → AttemptsAs nodes i decision result }
 {
     if let Some(paths) = paths {

@@ -39,10 +39,12 @@ pub fn find_fewest(
 {
     let found = count_by_lists(alloc, net, problem, nodes, antichain.len(), first)?;
     match found {
-        Finding::Known {
-            paths,
-            ending: Ending::Spent { trail, raised: _ },
-        } => narrow(alloc, net, problem, nodes, antichain, paths, trail),
+        Finding::Known { paths, ending } => match ending {
+            Ending::Spent { trail, raised: _ } => {
+                narrow(alloc, net, problem, nodes, antichain, paths, trail)
+            }
+            ending => Ok(Finding::Known { paths, ending }),
+        },
         Finding::Open { trail, raised: _ } => {
             narrow_open(alloc, net, problem, nodes, antichain, trail)
         }
@@ -89,20 +91,20 @@ fn narrow(
             find_fewer(alloc, net, problem, nodes, width, raised, fewer)
         }
         None => {
-            let ending = ending_at(count, trail, raised);
+            let ending = ending_at(count as usize, trail, raised);
             Ok(Finding::Known { paths, ending })
         }
     }
 }
 
 /// Why there are no fewer paths than so many, for which the search was spent.
-fn ending_at(count: u32, trail: Trail, raised: Option<Trail>) -> Ending
+fn ending_at(count: usize, trail: Trail, raised: Option<Trail>) -> Ending
     ensures { (nodes : ℕ) (i : Instance) (width : ℕ) → StopsAt nodes i width count (AtBudget trail None) → IfSome raised (λ tree. IsRaised nodes i width tree × (tree.decision.slots < count))
         → StopsAt nodes i width count result }
 {
     match raised {
         Some(tree) => {
-            if tree.decision.slots + 1 == count {
+            if tree.decision.slots as usize + 1 == count {
                 Ending::Refuted(tree)
             } else {
                 Ending::Spent {

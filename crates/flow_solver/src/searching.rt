@@ -1,5 +1,5 @@
 //! One search for an answer to a decision.
-ghost use Rattle.std.specs.Prelude.{◌≡◌, ◌≤◌, ◌<◌, IfOk};
+ghost use Rattle.std.specs.Prelude.{◌≡◌, ◌≤◌, ◌<◌, ◌^◌, IfOk};
 ghost use Rattle.decomposition.specs.declared.Mode.{Mode as AMode};
 ghost use Rattle.decomposition.specs.Instance.{IsInstance, greatest_hi};
 ghost use Rattle.flow_models.specs.Problem.{instance};
@@ -57,6 +57,7 @@ pub fn search_once(
 pub fn trail_of(alloc: Global, decision: Decision, tokens: &[Token]) -> Result<Trail, AllocError>
     ensures decision { IfOk result (λ trail. trail.decision ≡ decision) }
     ensures tokens { IfOk result (λ trail. trail.tokens ≡ tokens.now) }
+    ensures small { IfOk result (λ trail. (trail.decision.slots < 2 ^ 32) × IsSmall trail.decision.limit) }
 {
     let mut copy = Tokens::new(alloc);
     for &token in tokens {

@@ -24,11 +24,11 @@ returns-in-Never-clause-right c s i counts listed by =
 pub returns-in-Open-clause-right : goal.returns-in-Open-clause-right
 returns-in-Open-clause-right c s i counts listed by =
     let by' = subst (IsSolvedBy s.nodes s.mode i c.args.antichain) c.in-Open.is by in
-    subst (λ (ps : List (List ℕ × ℕ)). SolvedRight s i (said Bounds (Some c.bound_by.result.lower) None ps c.bound_by.result.cert (Some c.in-Open.trail) c.args.safe)) (sym c.new.ensures)
-    (right_by_open s i c.args.antichain c.bound_by.result.lower c.bound_by.result.cert c.in-Open.trail c.in-Open.raised c.args.safe counts listed by' c.bound_by.ensures.lower (c.bound_by.ensures.shows s.nodes i by.wide by.antichain by'.finds.2) c.bound_by.ensures.other)
+    subst (λ (ps : List (List ℕ × ℕ)). SolvedRight s i (said Bounds (Some c.bound_by-bound.result.lower) None ps c.bound_by-bound.result.cert (Some c.in-Open.trail) c.args.safe)) (sym c.new.ensures)
+    (right_by_open s i c.args.antichain c.bound_by-bound.result.lower c.bound_by-bound.result.cert c.in-Open.trail c.in-Open.raised c.args.safe counts listed by' c.bound_by-bound.ensures.lower (c.bound_by-bound.ensures.shows s.nodes i by.wide by.antichain by'.finds.2) c.bound_by-bound.ensures.other)
 
 pub returns-in-Open-clause-found : goal.returns-in-Open-clause-found
 returns-in-Open-clause-found c nodes mode i by rising =
     let by' = subst (IsSolvedBy nodes mode i c.args.antichain) c.in-Open.is by in
-    subst (λ (ps : List (List ℕ × ℕ)). IsFoundIn i.graph (said Bounds (Some c.bound_by.result.lower) None ps c.bound_by.result.cert (Some c.in-Open.trail) c.args.safe)) (sym c.new.ensures)
-    (none_in i.graph Bounds (Some c.bound_by.result.lower) c.bound_by.result.cert (Some c.in-Open.trail) c.args.safe rising (omega arith) (c.bound_by.ensures.rising i.graph by.rising (raised_small nodes i (length c.args.antichain) c.in-Open.raised by'.finds.2)) by'.finds.0.small)
+    subst (λ (ps : List (List ℕ × ℕ)). IsFoundIn i.graph (said Bounds (Some c.bound_by-bound.result.lower) None ps c.bound_by-bound.result.cert (Some c.in-Open.trail) c.args.safe)) (sym c.new.ensures)
+    (none_in i.graph Bounds (Some c.bound_by-bound.result.lower) c.bound_by-bound.result.cert (Some c.in-Open.trail) c.args.safe rising (omega arith) (c.bound_by-bound.ensures.rising i.graph by.rising (raised_small nodes i (length c.args.antichain) c.in-Open.raised by'.finds.2)) by'.finds.0.small)

@@ -1,17 +1,14 @@
--- The paths that a search finds are fewer.
-use Rattle.std.proofs.Common.{◌-◌, Some, refl, arith, subst}
-use Rattle.decomposition.specs.declared.Decision.{Decision}
+-- More paths are known than are refuted.
+use Rattle.std.proofs.Common.{length, subst}
 use Rattle.flow_models.specs.Problem.{instance}
-use Rattle.flow_solver.specs.Searched.{AttemptsAs}
-use Rattle.flow_solver.proofs.FoundPaths.{found_known}
+use Rattle.flow_solver.specs.Searched.{StopsAt}
+use Rattle.flow_solver.proofs.Floors.{raised_over}
 use Rattle.flow_solver.proofs.counting.find_fewer.Goals as goal
 
-pub loop-alloc-preserved : goal.loop-alloc-preserved
-loop-alloc-preserved c =
+pub returns-clause-finds : goal.returns-clause-finds
+returns-clause-finds c =
     let i = instance c.args.net.now c.args.problem.now in
-    let d : Decision = record { slots = c.len-in-loop-alloc.result - 1; limit = Some 0 } in
-    let found = subst (AttemptsAs c.args.nodes i d) c.in-Found.is c.in_ok-fewer.ensures in (
-      found_known i d c.in-Found.fewer c.requires.valid refl found,
-      omega (arith, found.few, c.loop-alloc.invariant.1, c.len-in-loop-alloc.ensures.len),
-      omega (arith, found.few, c.loop-alloc.invariant.2, c.len-in-loop-alloc.ensures.len),
-    )
+    let a = c.in_ok-paths.field-0.paths in
+    let known = c.in_ok-paths.ensures.known in
+    let stops = subst (λ n. StopsAt c.args.nodes i n (length a) c.in_ok-paths.field-0.ending) c.floor_of-floor.ensures c.in_ok-paths.ensures.stops in
+    (known.0, known.1, c.ending_over-ending.ensures c.args.nodes i c.args.width (length a) (raised_over c.args.nodes i c.args.width c.args.raised a c.requires.valid c.requires.raised known.0) stops)

@@ -46,8 +46,8 @@ facts c =
     solved_facts c.args.asked.nodes Exact i es c.in_ok-first.first c.in_ok-finding.finding tt c.requires.valid
     (exact_beginning_of booked_paths_are_one_list i c.deref-2.result.now c.in_ok-first.first (c.deref-2.ensures.value ∙ c.in_ok-flow.ensures) c.requires.valid c.in_ok-first.ensures)
     c.in_ok-antichain.ensures.width c.in_ok-antichain.ensures.antichain
-    (rising_edges i.graph _ es (omega (arith, c.len.ensures)) c.in_ok-antichain.ensures.antichain c.in_ok-antichain.ensures.rising)
-    (subst (λ n. FindsAs c.args.asked.nodes i n c.in_ok-finding.finding) c.len.ensures c.in_ok-finding.ensures.finds) c.in_ok-finding.ensures.fewer (λ ranges. absurd ranges)
+    (rising_edges i.graph _ es c.in_ok-antichain.ensures.few c.in_ok-antichain.ensures.antichain c.in_ok-antichain.ensures.rising)
+    c.in_ok-finding.ensures.finds c.in_ok-finding.ensures.fewer (λ ranges. absurd ranges)
 
 pub returns-clause-found : goal.returns-clause-found
 returns-clause-found c =

@@ -25,8 +25,8 @@ facts c =
     let es = c.in_ok-antichain-in-First.antichain in
     let within = subst (IsWithin i) c.in-First.is c.in_ok-side.ensures in
     solved_facts c.args.asked.nodes Interval i es c.in-First.first c.in_ok-finding-in-First.finding tt c.requires.valid within.0 c.in_ok-antichain-in-First.ensures.width c.in_ok-antichain-in-First.ensures.antichain
-    (rising_edges i.graph _ es (omega (arith, c.len.ensures)) c.in_ok-antichain-in-First.ensures.antichain c.in_ok-antichain-in-First.ensures.rising)
-    (subst (λ n. FindsAs c.args.asked.nodes i n c.in_ok-finding-in-First.finding) c.len.ensures c.in_ok-finding-in-First.ensures.finds) c.in_ok-finding-in-First.ensures.fewer (λ ranges. within.1)
+    (rising_edges i.graph _ es c.in_ok-antichain-in-First.ensures.few c.in_ok-antichain-in-First.ensures.antichain c.in_ok-antichain-in-First.ensures.rising)
+    c.in_ok-finding-in-First.ensures.finds c.in_ok-finding-in-First.ensures.fewer (λ ranges. within.1)
 
 pub returns-in_ok-finding-in-First-clause-found : goal.returns-in_ok-finding-in-First-clause-found
 returns-in_ok-finding-in-First-clause-found c =

@@ -69,4 +69,4 @@ pub returns-clause-booked : goal.returns-clause-booked
 returns-clause-booked c =
     let i = instance c.args.net.now c.args.problem.now in
     let at = goal.at.returns-clause-booked c in
-    too_many_if_ok booked_paths_are_one_list c.args.k i (slice_index (lows i.ranges)) c.in_ok-booked.booked c.search_once.result c.requires.valid (high at.In_ok-booked) (booked at.In_ok-booked) (omega (arith, c.len.ensures.len))
+    too_many_if_ok booked_paths_are_one_list c.args.k i (slice_index (lows i.ranges)) c.in_ok-booked.booked c.attempt_any.result c.requires.valid (high at.In_ok-booked) (booked at.In_ok-booked) (omega (arith, c.len.ensures.len))

@@ -2,7 +2,7 @@ use Rattle.std.proofs.Common.{◌≤◌, length}
 use Rattle.decomposition.specs.declared.Mode.TheVariants.{Interval}
 use Rattle.flow_models.specs.Problem.{instance}
 use Rattle.flow_solver.specs.Searched.{AreFewPaths, IsKnown}
-use Rattle.flow_solver.proofs.counting.find_fewer.Given as goal
+use Rattle.flow_solver.proofs.counting.search_down.Given as goal
 
 abbrev pub invariant-loop-alloc : goal.invariant-loop-alloc
 invariant-loop-alloc l =
