@@ -3,6 +3,7 @@
 
 pub use crowd::check_crowd;
 pub use cut::check_cut;
+pub use paths::are_paths;
 pub use report::{Verdict, check_report};
 pub use tree::{TreeVerdict, check_tree};
 pub use wide::check_wide;

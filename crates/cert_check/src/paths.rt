@@ -14,7 +14,7 @@ use std::alloc::{AllocError, Global};
 use std::collections::BTreeSet;
 
 /// Whether each entry is a path of the net.
-fn are_paths(net: &Net, paths: &Answer) -> bool
+pub fn are_paths(net: &Net, paths: &Answer) -> bool
     ensures { IsTrue result ↔ IsAnswer net.now paths.now }
 {
     for i in 0..paths.len() {

@@ -20,7 +20,9 @@ use Rattle.path_report.specs.declared.report.Mark.TheVariants.{Optimal, Infeasib
 use Rattle.path_report.specs.declared.report.Solved.{Solved}
 use Rattle.path_report.specs.declared.report.Trail.{Trail}
 use Rattle.flowpaths_cli.specs.AcceptedReports.{RightReportsAreAccepted, SolvedReportsAreAccepted}
-use Rattle.flowpaths_cli.specs.Right.{AreBuilt, AreListed, ArePathsFor, BodyRight, CountsPaths, HasEachPathOnce, HasRanges, IsCertFor, IsCertOfNone, IsMarked, IsTrailFor, SolvedRight, decision_between}
+use Rattle.flow_solver.specs.Right.{AreListed, ArePathsFor, CountsPaths, HasEachPathOnce, HasRanges, IsCertFor, IsCertOfNone, IsMarked, IsTrailFor, decision_between}
+use Rattle.flowpaths_cli.specs.Asked.{asked_by}
+use Rattle.flowpaths_cli.specs.Right.{AreBuilt, BodyRight, SolvedRight}
 use Rattle.flowpaths_cli.specs.Solving.{AreForSolving}
 use Rattle.flowpaths_cli.specs.declared.settings.Settings.{Settings}
 
@@ -89,7 +91,7 @@ trail_fits nodes mode i s Bounds h =
     subst (λ l. IsSomeAnd s.trail (λ t. LeavesOpen mode i l s.upper t)) (sym h.lower)
     (each_some s.trail (IsTrailFor nodes mode i h.value s.upper) (LeavesOpen mode i (Some h.value) s.upper) (λ t for. leaves_open nodes mode i h.value s.upper t h.upper for) h.trail)
 
-safe_fits : (set : Settings) (i : Instance) (runs : Option (List (List ℕ))) → AreForSolving set → AreListed set i runs → SafeFits set.mode i runs
+safe_fits : (set : Settings) (i : Instance) (runs : Option (List (List ℕ))) → AreForSolving set → AreListed (asked_by set) i runs → SafeFits set.mode i runs
 safe_fits set i None ready h = tt
 safe_fits set i (Some runs) ready h = (ready.safe (sym h.0), h.1)
 

@@ -20,10 +20,11 @@ use Rattle.path_report.specs.declared.report.Body.TheVariants.{Refused, Solved a
 use Rattle.path_report.specs.declared.report.Mark.{Mark}
 use Rattle.path_report.specs.declared.report.Mark.TheVariants.{Optimal, Infeasible, Bounds}
 use Rattle.flowpaths_cli.specs.declared.settings.Settings.{Settings}
-use Rattle.flowpaths_cli.specs.Booking.{AreBookedFor, BookedFit, IsKnownWhereBookedFit}
+use Rattle.flow_solver.specs.Booking.{AreBookedFor, BookedFit, IsKnownWhereBookedFit}
 use Rattle.flowpaths_cli.specs.Generated.{IsFewest, AreFewest}
 use Rattle.flowpaths_cli.specs.Marks.{is_best_mark, is_best, paths_of}
-use Rattle.flowpaths_cli.specs.Right.{BodyRight, ArePathsFor, IsMarked, is_open_mark, is_open}
+use Rattle.flow_solver.specs.Right.{ArePathsFor, IsMarked}
+use Rattle.flowpaths_cli.specs.Right.{BodyRight, is_open_mark, is_open}
 use Rattle.flowpaths_cli.specs.Run.{AreReports}
 
 -- where no run must be covered, nothing is booked, and that fits

@@ -24,7 +24,8 @@ use Rattle.flowpaths_cli.specs.declared.settings.Settings.{Settings}
 use Rattle.flowpaths_cli.specs.declared.tally.Tally.{Tally}
 use Rattle.flowpaths_cli.specs.Generated.{IsTallied, AreTallied, HasCounted, IsToldWith}
 use Rattle.flowpaths_cli.specs.Marks.{is_best, paths_of}
-use Rattle.flowpaths_cli.specs.Right.{AreBuilt, BodyRight, ArePathsFor, AreFew, IsReportOf, is_open}
+use Rattle.flow_solver.specs.Right.{ArePathsFor, AreFew}
+use Rattle.flowpaths_cli.specs.Right.{AreBuilt, BodyRight, IsReportOf, is_open}
 use Rattle.flowpaths_cli.specs.Run.{AreReports}
 use Rattle.flowpaths_cli.specs.Tally.{tally_of, lines_of, IsWithin}
 use Rattle.flowpaths_cli.proofs.Reports.{reports-more}

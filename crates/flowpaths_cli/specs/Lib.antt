@@ -4,15 +4,9 @@ pub mod Faults
 pub mod Values
 pub mod Words
 pub mod Examples
-pub mod Booking
-pub mod Crowds
+pub mod Asked
 pub mod Right
 pub mod Solving
-pub mod Searched
-pub mod Firsts
-pub mod Room
-pub mod Halved
-pub mod Widened
 pub mod Run
 pub mod Reporting
 pub mod Marks

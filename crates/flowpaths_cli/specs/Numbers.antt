@@ -1,4 +1,5 @@
 -- Numbers as the words spell them.
+pub use Rattle.flow_solver.specs.Asked.{most_nodes}
 use Rattle.std.specs.Prelude.{ℕ, List, ◌&&◌, nat_le, length, if◌then◌else◌, Option, Some, None}
 use Rattle.graph_text.specs.Reading.{are_digits, number_of}
 
@@ -8,10 +9,7 @@ number_in least most word =
     let in_range = nat_le least (number_of word) && nat_le (number_of word) most in
     if are_digits word && (nat_le (length word) 10 && in_range) then Some (number_of word) else None
 
--- the largest numbers that the words may name: of tokens of a search, of paths, and of a seed
-abbrev pub most_nodes : ℕ
-most_nodes = 50000
-
+-- the largest numbers that the words may name beside that of the tokens of a search: of paths, and of a seed
 abbrev pub most_paths : ℕ
 most_paths = 64
 

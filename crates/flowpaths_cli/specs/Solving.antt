@@ -1,23 +1,20 @@
 -- What solving a graph needs of the settings, and the reports that are made of what it finds.
-use Rattle.std.specs.Prelude.{◌≡◌, ◌≤◌, ◌<◌, ◌^◌, length, true, IsTrue}
+use Rattle.std.specs.Prelude.{◌≡◌, ◌≤◌, ◌<◌, ◌^◌, length, IsTrue}
 use Rattle.cert_check.specs.Verdict.{IsAccepted}
-use Rattle.decomposition.specs.declared.Mode.TheVariants.{Exact}
 use Rattle.decomposition.specs.Graph.{Graph}
 use Rattle.decomposition.specs.Instance.{Instance}
+use Rattle.flow_solver.specs.Asked.{MayBeAsked}
 use Rattle.graph_text.specs.Labels.{LabelLists}
 use Rattle.path_report.specs.declared.report.Report.{Report}
 use Rattle.path_report.specs.declared.report.Solved.{Solved}
 use Rattle.path_report.specs.declared.report.Body.TheVariants.{Solved as SolvedBody}
-use Rattle.path_report.specs.ReportText.{is_mode, is_name, is_regular, is_regular_solved}
-use Rattle.flowpaths_cli.specs.Numbers.{most_nodes}
+use Rattle.path_report.specs.ReportText.{is_name, is_regular, is_regular_solved}
+use Rattle.flowpaths_cli.specs.Asked.{asked_by}
 use Rattle.flowpaths_cli.specs.declared.settings.Settings.{Settings}
 
--- Settings under which a graph is solved: a model, a number of tokens in its range, and safe runs in the exact model alone.
-pub record AreForSolving (s : Settings) : Type 0 where
-  pub least : 1 ≤ s.nodes
-  pub most : s.nodes ≤ most_nodes
-  pub mode : IsTrue (is_mode s.mode)
-  pub safe : s.safe ≡ true → s.mode ≡ Exact
+-- settings under which a graph is solved: what they ask may be asked
+abbrev pub AreForSolving : Settings → Type 0
+AreForSolving s = MayBeAsked (asked_by s)
 
 -- labels that have the edges of a graph, in order, and a name for each of its vertices
 pub record AreLabelsFor (g : Graph) (labels : LabelLists) : Type 0 where

@@ -2,29 +2,18 @@
 #![tactic(auto)]
 
 mod accepted;
-mod bounds;
 mod call;
 mod command;
-mod counted;
-mod counting;
-mod crowds;
-mod exact;
 mod examples;
 mod generated;
 mod given;
-mod interval;
-mod least_error;
 mod numbers;
 mod reporting;
-mod room;
-mod searching;
 mod seeded;
 mod settings;
 mod solving;
 mod tally;
 mod telling;
-mod thin;
-mod widened;
 mod words;
 
 pub use accepted::{right_reports_are_accepted, solved_reports_are_accepted};

@@ -2,6 +2,7 @@
 
 use dag_net::Mode;
 use flow_io::Word;
+use flow_solver::Asked;
 
 /// How an input is read and solved.
 #[derive(Drop)]
@@ -16,4 +17,20 @@ pub struct Settings {
     pub demo: Option<u64>,
     /// The name of the input, `-` for standard input.
     pub file: Word,
+}
+
+impl Settings {
+    ghost use Rattle.std.specs.Prelude.{◌≡◌};
+    ghost use Rattle.flowpaths_cli.specs.Asked.{asked_by};
+
+    /// What the solver is asked.
+    pub fn asked(&self) -> Asked
+        ensures { result ≡ asked_by self.now }
+    {
+        Asked {
+            mode: self.mode,
+            nodes: self.nodes,
+            safe: self.safe,
+        }
+    }
 }

@@ -1,15 +1,12 @@
-//! What a block is answered, model by model.
+//! What a block is answered.
 ghost use Rattle.std.specs.Prelude.{◌≤◌, length, IfOk};
 ghost use Rattle.decomposition.specs.Instance.{IsInstance};
 ghost use Rattle.graph_text.specs.Reading.{instance_of};
 ghost use Rattle.flowpaths_cli.specs.Right.{SolvedRight};
 ghost use Rattle.flowpaths_cli.specs.Solving.{AreForSolving, IsRegularFor, IsReportable};
 
-use crate::exact::solve_exact;
-use crate::interval::solve_interval;
-use crate::least_error::solve_least_error;
 use crate::settings::Settings;
-use dag_net::Mode;
+use flow_solver::solve;
 use graph_text::RawGraph;
 use path_report::Solved;
 use program_runs::problem_of;
@@ -30,9 +27,5 @@ pub fn solve_block(
     ensures reportable { IfOk result (IsReportable settings.now (instance_of graph.now)) }
 {
     let problem = problem_of(alloc, graph)?;
-    match settings.mode {
-        Mode::Exact => solve_exact(alloc, &graph.net, &problem, settings),
-        Mode::Interval => solve_interval(alloc, &graph.net, &problem, settings),
-        Mode::Abs { k } => solve_least_error(alloc, &graph.net, &problem, settings, k),
-    }
+    solve(alloc, &graph.net, &problem, settings.asked())
 }

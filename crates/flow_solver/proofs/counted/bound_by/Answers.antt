@@ -1,0 +1,14 @@
+-- A refutation shows one more than it refutes, and an antichain the width.
+use Rattle.std.proofs.Common.{None, Some, length, sym, subst}
+use Rattle.decomposition.specs.declared.Mode.TheVariants.{Interval}
+use Rattle.path_report.specs.declared.report.Cert.TheVariants.{Tree}
+use Rattle.flow_solver.specs.Right.{IsCertFor}
+use Rattle.flow_solver.specs.Searched.{IsRaisedWithin, floor_of}
+use Rattle.flow_solver.proofs.Floors.{none_shown, raised_shown}
+use Rattle.flow_solver.proofs.counted.bound_by.Goals as goal
+
+pub returns-in-None-clause-shows : goal.returns-in-None-clause-shows
+returns-in-None-clause-shows c nodes i wide chain raised = none_shown nodes i c.args.antichain c.args.raised c.cert_of.result c.in-None.is (c.cert_of.ensures.shows nodes i wide chain)
+
+pub returns-in-None-clause-rising : goal.returns-in-None-clause-rising
+returns-in-None-clause-rising c g rising small = c.cert_of.ensures.rising g rising

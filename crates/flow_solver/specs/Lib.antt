@@ -1,0 +1,9 @@
+pub mod Asked
+pub mod Booking
+pub mod Crowds
+pub mod Right
+pub mod Searched
+pub mod Firsts
+pub mod Room
+pub mod Halved
+pub mod Widened

@@ -1,5 +1,0 @@
-use Rattle.flowpaths_cli.specs.Room.{IsLeftOf}
-use Rattle.flowpaths_cli.proofs.thin.left_of.Given as goal
-
-abbrev pub invariant-loop-e : goal.invariant-loop-e
-invariant-loop-e l = IsLeftOf l.e l.flow l.settled l.left.items

@@ -1,5 +1,0 @@
-use Rattle.flowpaths_cli.specs.Room.{AreAtMost, IsSettling}
-use Rattle.flowpaths_cli.proofs.thin.settle_paths.Given as goal
-
-abbrev pub invariant-loop : goal.invariant-loop
-invariant-loop l = IsSettling l.net l.ranges l.settling × AreAtMost l.fn.first.settled.items l.settling.settled.items
