@@ -1,5 +1,5 @@
 -- The numbers of blocks and of texts at the end of a check.
-use Rattle.std.proofs.Common.{◌≡◌, ◌≢◌, ◌==◌, ℕ, List, [], ◌++◌, length, take, drop, false, Option, refl, sym, ap, subst, ◌∙◌, append_assoc, eq-eqb}
+use Rattle.std.proofs.Common.{◌≡◌, ◌≢◌, ◌<◌, ◌^◌, ◌==◌, ℕ, List, [], ◌++◌, length, take, drop, false, Option, refl, sym, ap, subst, ◌∙◌, append_assoc, eq-eqb}
 use Rattle.std.proofs.lemmas.Bool.{cond-true, cond-false, eqb-true, false_from_ne_true}
 use Rattle.std.proofs.lemmas.List.{take-append-drop}
 use Rattle.std.specs.List.{list_any}
@@ -22,8 +22,12 @@ pub checked-done : (c : Checking) → HasCome {W = Checking} (λ first shown tex
 checked-done c (first, shown, text, h) =
     subst IsDone (sym h.checked.status_is) (done-by (list_any is_unread h.outcomes) (list_any (λ outcome. not (is_yes outcome)) h.outcomes))
 
+-- there are few reports
+pub few-reports : (c : Checking) → HasCome {W = Checking} (λ first shown text. Checks first c shown text) → length c.reports.now < 2 ^ 30
+few-reports c (first, shown, text, h) = subst (λ r. length r < 2 ^ 30) (sym h.reports_are) h.begun.short
+
 -- how many texts there are
-abbrev texts_of : Checking → ℕ
+abbrev pub texts_of : Checking → ℕ
 texts_of c = length (report_texts c.reports.now)
 
 same_texts : (first c : Checking) (shown : List TextBlock) (text : List ℕ) → Checks first c shown text → texts_of c ≡ texts_of first

@@ -1,9 +1,9 @@
-use Rattle.std.proofs.Common.{[], ap, subst, arith, refl}
+use Rattle.std.proofs.Common.{[], ◌∷◌, ◌++◌, sym, subst, arith, refl}
 use Rattle.flow_io.proofs.Adding.{Adds-nothing}
-use Rattle.flow_io.specs.Outside.{Adds}
 use Rattle.flowcheck_cli.specs.CheckLines.{outcome_line}
 use Rattle.flowcheck_cli.specs.Outcomes.{IsOutcome}
 use Rattle.flowcheck_cli.specs.ReportTexts.{report_texts}
+use Rattle.flowcheck_cli.specs.Checking.{Checks}
 use Rattle.flowcheck_cli.proofs.Growing.{checks-more, checks-same, checks-cut, index-handed}
 use Rattle.flowcheck_cli.proofs.checking.CheckingWorker.answer.Goals as goal
 
@@ -20,4 +20,8 @@ returns-in_err-write_outcome-clause-cut g c stopped =
 
 pub returns-clause-done : goal.returns-clause-done
 returns-clause-done g c = (outcome_line c.args.block.index c.in_ok-outcome.outcome, c.in_ok-write_outcome.ensures.ok, λ asked handed first shown before h.
-    let text = c.in-Some.text.bytes.now in ?)
+    let text = c.in-Some.text.bytes.now in
+    subst (λ k. Checks first _ (shown ++ asked ∷ []) (before ++ outcome_line k c.in_ok-outcome.outcome)) (sym (index-handed c.args.self.now.mode asked c.args.block handed))
+    (checks-more first c.args.self.now _ shown before asked text c.in_ok-outcome.outcome h
+    (subst (λ at. IsOutcome c.args.self.now.mode asked at text c.in_ok-outcome.outcome) c.in-Some.ensures.line (c.in_ok-outcome.ensures asked handed))
+    c.in-Some.ensures.texts c.in-Some.ensures.next (omega (arith, h.left_short, c.take_text.ensures.within)) refl refl refl c.status_after-self.ensures))
