@@ -1,5 +1,5 @@
 -- From what a run took and wrote to what is said of it where the inputs and the output tell.
-use Rattle.std.proofs.Common.{◌≡◌, ◌≢◌, ◌≤◌, ◌<◌, ◌^◌, ◌⊎◌, ℕ, List, [], ◌∷◌, ◌++◌, length, true, false, Option, Some, None, refl, sym, ap, subst, ◌∙◌, arith, inl, inr, append-nil}
+use Rattle.std.proofs.Common.{◌≡◌, ◌≢◌, ◌≤◌, ◌<◌, ◌^◌, ℕ, List, [], ◌∷◌, ◌++◌, length, true, false, Option, Some, None, refl, sym, ap, subst, ◌∙◌, arith, inl, inr, append-nil}
 use Rattle.std.specs.Prelude.{IfSome, IsSome, IsNone, is_some, if◌then◌else◌}
 use Rattle.std.specs.Str.{bytes_eq}
 use Rattle.std.proofs.lemmas.Bool.{cond-true, cond-false, false_from_ne_true}
@@ -135,7 +135,7 @@ of_done names reports status rose bytes rest text not_long not_fault not_memory 
 -- a beginning of what is printed at the end
 printed_at : (reports bytes rest text : List ℕ) → rest ≡ [] → BeginsEnd (AreLines reports) (AreAllLines reports) (blocks bytes) text → BeginsAt reports bytes (Some rest) text
 printed_at reports bytes rest text end (inl lines) = inl (subst (λ r. BeginsLines reports (blocks_at bytes (Some r)) text) (sym end) lines)
-printed_at reports bytes rest text end (inr (more, status, outcomes, printed, is)) = inr (ap Some end, (more, outcomes, printed))
+printed_at reports bytes rest text end (inr (more, status, (outcomes, printed, is))) = inr (ap Some end, (more, outcomes, printed))
 
 -- a run that could not select the graph text wrote nothing
 writes-none : (names : InputNames) (rose : Type 0) (graphs reports : List ℕ) → Writes names Fault rose (record { graphs = graphs; reports = reports; last = None }) []

@@ -12,7 +12,7 @@ use Rattle.flowcheck_cli.specs.CheckLines.{AreOutcomes, ArePrinted, outcome_line
 use Rattle.flowcheck_cli.specs.Outcomes.{IsOutcome}
 use Rattle.flowcheck_cli.specs.ReportTexts.{Left, report_texts, model_in, line_count}
 use Rattle.flowcheck_cli.specs.Run.{AreLines}
-use Rattle.flowcheck_cli.specs.Checking.{texts_behind, line_behind, HasChecked, IsShort, Checks}
+use Rattle.flowcheck_cli.specs.Checking.{texts_behind, line_behind, IsShort, Checks}
 use Rattle.flowcheck_cli.specs.declared.checking.Checking.{Checking}
 use Rattle.flowcheck_cli.specs.declared.outcome.Outcome.{Outcome}
 
@@ -122,13 +122,13 @@ one_more first old shown before block text rest outcome h is texts =
 one_longer : (shown : List TextBlock) (block : TextBlock) (n : ℕ) → n ≡ length shown → n + 1 ≡ length (shown ++ block ∷ [])
 one_longer shown block n is = omega (arith, is, length-append shown (block ∷ []))
 
-pub checks-more : (first old new : Checking) (shown : List TextBlock) (before : List ℕ) (block : TextBlock) (text : List ℕ) (outcome : Outcome) →
+pub checks-more : (first old new : Checking) (shown : List TextBlock) (before : List ℕ) (block : TextBlock) (text : List ℕ) (outcome : Outcome) (index : ℕ) → index ≡ block.index →
     Checks first old shown before → IsOutcome old.mode block old.rest.line text outcome →
     report_texts old.rest.bytes ≡ text ∷ report_texts new.rest.bytes → new.rest.line ≡ old.rest.line + line_count text → IsShort new →
     new.reports.now ≡ old.reports.now → new.mode ≡ old.mode → new.blocks ≡ old.blocks + 1 →
     ((outcomes : List Outcome) → old.status ≡ status_of outcomes → new.status ≡ status_of (outcomes ++ outcome ∷ [])) →
-    Checks first new (shown ++ block ∷ []) (before ++ outcome_line block.index outcome)
-checks-more first old new shown before block text outcome h is texts line short reports mode number status =
+    Checks first new (shown ++ block ∷ []) (before ++ outcome_line index outcome)
+checks-more first old new shown before block text outcome index named h is texts line short reports mode number status =
     let all = report_texts first.reports.now in
     let more = one_more first old shown before block text (report_texts new.rest.bytes) outcome h is texts in
     let behind = behind-more 1 shown all block text (report_texts new.rest.bytes) (h.checked.texts_left ∙ texts) in
@@ -145,7 +145,7 @@ checks-more first old new shown before block text outcome h is texts line short 
         texts_left = behind.0;
         line_is = behind.1 ∙ ap (λ at. at + line_count text) h.checked.line_is ∙ sym line;
       };
-      text_is = more.lines_are;
+      text_is = ap (λ k. before ++ outcome_line k outcome) named ∙ more.lines_are;
     }
 
 -- one block more that has no text

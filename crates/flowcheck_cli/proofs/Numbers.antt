@@ -1,5 +1,5 @@
 -- The numbers of blocks and of texts at the end of a check.
-use Rattle.std.proofs.Common.{◌≡◌, ◌≢◌, ◌<◌, ◌^◌, ◌==◌, ℕ, List, [], ◌++◌, length, take, drop, false, Option, refl, sym, ap, subst, ◌∙◌, append_assoc, eq-eqb}
+use Rattle.std.proofs.Common.{◌≡◌, ◌≢◌, ◌<◌, ◌^◌, ◌==◌, ℕ, List, [], ◌++◌, length, take, drop, false, Option, sym, ap, subst, ◌∙◌, eq-eqb}
 use Rattle.std.proofs.lemmas.Bool.{cond-true, cond-false, eqb-true, false_from_ne_true}
 use Rattle.std.proofs.lemmas.List.{take-append-drop}
 use Rattle.std.specs.List.{list_any}
@@ -10,12 +10,11 @@ use Rattle.flow_io.proofs.Adding.{Adds-nothing}
 use Rattle.graph_text.specs.Blocks.{TextBlock}
 use Rattle.program_runs.proofs.Statuses.{done-by}
 use Rattle.block_runs.specs.Answering.{HasCome, Finishes, IsCutAtEnd}
-use Rattle.flowcheck_cli.specs.CheckLines.{outcome_lines, counts_line, counts_line_if_other, status_of, status_of_all, is_yes, is_unread}
+use Rattle.flowcheck_cli.specs.CheckLines.{outcome_lines, counts_line, counts_line_if_other, status_of, is_yes, is_unread}
 use Rattle.flowcheck_cli.specs.ReportTexts.{report_texts}
 use Rattle.flowcheck_cli.specs.Run.{IsDone, AreAllLines}
 use Rattle.flowcheck_cli.specs.Checking.{Checks}
 use Rattle.flowcheck_cli.specs.declared.checking.Checking.{Checking}
-use Rattle.flowcheck_cli.specs.declared.outcome.Outcome.{Outcome}
 
 -- a status of outcomes is that of a run that came to its end
 pub checked-done : (c : Checking) → HasCome {W = Checking} (λ first shown text. Checks first c shown text) → IsDone c.status
@@ -36,15 +35,19 @@ same_texts first c shown text h = ap (λ r. length (report_texts r)) h.reports_a
 -- where the numbers are equal nothing more is printed
 pub told-same : (c : Checking) (told : Option (List ℕ)) → c.blocks ≡ texts_of c →
     Finishes {W = Checking} (λ first shown text. Checks first c shown text) (λ first shown text. AreAllLines first.reports.now c.status shown text) told told
-told-same c told same = ([], Adds-nothing told, λ first shown text h.
-    let lines = outcome_lines shown h.outcomes in
-    let n = length shown in
-    let equal : n ≡ texts_of first = sym h.checked.blocks_are ∙ same ∙ same_texts first c shown text h in
-    let line : counts_line_if_other n (texts_of first) ≡ [] = cond-true (n == texts_of first) [] (counts_line n (texts_of first)) (eq-eqb n (texts_of first) equal) in (
-      h.outcomes,
-      record { outcomes_are = h.checked.outcomes_are; lines_are = ap (λ t. t ++ []) h.text_is ∙ ap (λ l. lines ++ l) (sym line) },
-      h.checked.status_is ∙ sym (cond-true (n == texts_of first) (status_of h.outcomes) Refused (eq-eqb n (texts_of first) equal)),
-    ))
+told-same c told same = (
+  [],
+  Adds-nothing told,
+  λ first shown text h.
+      let lines = outcome_lines shown h.outcomes in
+      let n = length shown in
+      let equal : n ≡ texts_of first = sym h.checked.blocks_are ∙ same ∙ same_texts first c shown text h in
+      let line : counts_line_if_other n (texts_of first) ≡ [] = cond-true (n == texts_of first) [] (counts_line n (texts_of first)) (eq-eqb n (texts_of first) equal) in (
+        h.outcomes,
+        record { outcomes_are = h.checked.outcomes_are; lines_are = ap (λ t. t ++ []) h.text_is ∙ ap (λ l. lines ++ l) (sym line) },
+        h.checked.status_is ∙ sym (cond-true (n == texts_of first) (status_of h.outcomes) Refused (eq-eqb n (texts_of first) equal)),
+      ),
+)
 
 -- where they differ a line tells both
 other_all : (c first : Checking) (shown : List TextBlock) (text : List ℕ) → (c.blocks ≢ texts_of c) → Checks first c shown text →

@@ -2,7 +2,6 @@ use Rattle.std.proofs.Common.{◌≡◌, ◌<◌, ◌^◌, ◌∙◌, Err, lengt
 use Rattle.flow_io.specs.Outside.{Rose}
 use Rattle.flowcheck_cli.specs.Checking.{BeginsRight}
 use Rattle.program_runs.specs.Inputs.{WhereSeen}
-use Rattle.flowcheck_cli.specs.Run.{WhereBothSeen, WhereWritten, Reads, Writes}
 use Rattle.flow_io.proofs.Causes.{Rose-before}
 use Rattle.flowcheck_cli.proofs.Accounts.{reads-right, writes-right, reads-stopped, writes-stopped, begins_not_words, stop_not_words}
 use Rattle.flowcheck_cli.proofs.call.run_inputs.Goals as goal
@@ -29,12 +28,12 @@ returns-in-Ok-clause-writes g c =
 
 pub returns-in-Err-clause-reads : goal.returns-in-Err-clause-reads
 returns-in-Err-clause-reads g c =
-    reads-stopped (record { graph = c.args.graph.now; report = c.args.report.now }) c.in-Err.status _ _ _ c.in-Err.ensures c.requires.differ c.read_input.ensures.first c.read_input.ensures.only
+    reads-stopped (record { graph = c.args.graph.now; report = c.args.report.now }) c.in-Err.status _ _ _ c.in-Err.ensures.stopped c.requires.differ c.read_input.ensures.first c.read_input.ensures.only
     (λ is. c.read_input.ensures.long (c.in-Err.is ∙ ap Err is))
 
 pub returns-in-Err-clause-writes : goal.returns-in-Err-clause-writes
 returns-in-Err-clause-writes g c =
-    writes-stopped (record { graph = c.args.graph.now; report = c.args.report.now }) c.in-Err.status _ _ _ _ _ c.in-Err.ensures c.requires.differ c.read_input.ensures.first c.read_input.ensures.only
+    writes-stopped (record { graph = c.args.graph.now; report = c.args.report.now }) c.in-Err.status _ _ _ _ _ c.in-Err.ensures.stopped c.requires.differ c.read_input.ensures.first c.read_input.ensures.only
     (λ is. c.read_input.ensures.long (c.in-Err.is ∙ ap Err is))
 
 pub returns-in-Ok-clause-not_words : goal.returns-in-Ok-clause-not_words
@@ -47,7 +46,7 @@ returns-in-Ok-clause-fault g c faulty = elim (c.check_input.ensures.fault faulty
 ]
 
 pub returns-in-Err-clause-not_words : goal.returns-in-Err-clause-not_words
-returns-in-Err-clause-not_words g c is = stop_not_words c.in-Err.status c.in-Err.ensures is
+returns-in-Err-clause-not_words g c is = stop_not_words c.in-Err.status c.in-Err.ensures.stopped is
 
 pub returns-in-Err-clause-fault : goal.returns-in-Err-clause-fault
 returns-in-Err-clause-fault g c faulty = inl (c.read_input.ensures.fault (c.in-Err.is ∙ ap Err faulty))

@@ -23,5 +23,5 @@ returns-clause-done g c =
     let other : c.args.self.now.blocks ≢ texts_of c.args.self.now = λ same. omega (arith, same, c.if-self-texts.false, c.count_texts-texts.ensures) in (
       tt,
       told-other c.args.self.now _ _ other
-      (subst (λ n. Adds (g.O.Output.written c.args.out.now) (g.O.Output.written c.write_counts.new.out) (counts_line c.args.self.now.blocks n)) c.count_texts-texts.ensures c.in_ok-write_counts.ensures.ok),
+          (subst (λ n. Adds (g.O.Output.written c.args.out.now) (g.O.Output.written c.write_counts.new.out) (counts_line c.args.self.now.blocks n)) c.count_texts-texts.ensures c.in_ok-write_counts.ensures.ok),
     )
