@@ -30,4 +30,6 @@ mod said;
 #[cfg(test)]
 mod searches;
 #[cfg(test)]
+mod sums;
+#[cfg(test)]
 mod trees;
