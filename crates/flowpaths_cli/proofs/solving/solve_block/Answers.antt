@@ -11,12 +11,12 @@ use Rattle.flowpaths_cli.specs.Right.{SolvedRight}
 use Rattle.flowpaths_cli.proofs.MadeReports.{answer_regular, answer_reportable}
 use Rattle.program_runs.proofs.Problems.{problem_is}
 use Rattle.flowpaths_cli.proofs.solving.solve_block.Goals as goal
-use Rattle.flowpaths_cli.proofs.solving.solve_block.Goals.{In_ok-problem, After-solve}
+use Rattle.flowpaths_cli.proofs.solving.solve_block.Goals.{In_ok-problem, After-drop-problem-2}
 
 same : (c : In_ok-problem) → instance c.args.graph.now.net c.in_ok-problem.problem ≡ instance_of c.args.graph.now
 same c = problem_is c.args.graph.now c.in_ok-problem.problem c.requires.valid.distinct c.in_ok-problem.ensures.ranges c.in_ok-problem.ensures.rules
 
-right : (c : After-solve) → IfOk c.solve.result (SolvedRight c.args.settings.now (instance_of c.args.graph.now))
+right : (c : After-drop-problem-2) → IfOk c.solve.result (SolvedRight c.args.settings.now (instance_of c.args.graph.now))
 right c =
     let i = instance c.args.graph.now.net c.in_ok-problem.problem in
     let asked = subst (λ (a : Asked). IfOk c.solve.result (RightAsAsked a i)) c.asked.ensures c.solve.ensures.right in
