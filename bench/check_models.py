@@ -141,12 +141,12 @@ def rule_token(graph, limit, box):
     return next((t for t in tokens if legal(graph, limit, box, t)), None)
 
 
-def replay(graph, slots, limit, tokens):
-    """The boxes that the tokens leave; every token must be the rule token of the first box."""
+def replay(graph, slots, limit, tokens, by_rule):
+    """The boxes that the tokens leave; every token must be legal, or the rule token of the first box."""
     boxes = [[(0, graph.cap, ())] * slots]
     for token in tokens:
         assert boxes and legal(graph, limit, boxes[0], token), "a token that is not legal"
-        assert token == rule_token(graph, limit, boxes[0]), "another token than the rule's"
+        assert not by_rule or token == rule_token(graph, limit, boxes[0]), "another token than the rule's"
         boxes = after(graph, boxes[0], token) + boxes[1:]
     return boxes
 
@@ -210,7 +210,7 @@ def compare(graph, model, k, nodes, report):
         else:
             asked = (len(graph.ends) + len(graph.runs) if upper is None else upper - 1, 0)
         assert (int(slots), number(limit)) == asked and len(tokens) == nodes, "the trail's decision"
-        boxes = replay(graph, *asked, tokens)
+        boxes = replay(graph, *asked, tokens, True)
         assert boxes and rule_token(graph, asked[1], boxes[0]), "a trail that ends"
         line = next(lines)
     assert line == "end", line
@@ -242,7 +242,7 @@ def check_cert(graph, model, k, nodes, mark, lower, cert, lines):
         else:
             asked = (k, lower - 1) if model == "abs" else (lower - 1, 0)
         assert (slots, limit) == asked and len(tokens) <= nodes, "the tree's decision"
-        assert not replay(graph, slots, limit, tokens), "a tree that leaves boxes"
+        assert not replay(graph, slots, limit, tokens, False), "a tree that leaves boxes"
     elif kind == "cut":
         inside = {next(lines).split()[1] for _ in range(int(cert[2]))}
         entering = [r for (u, v), r in zip(graph.ends, graph.ranges) if u not in inside and v in inside]
