@@ -1,5 +1,5 @@
 -- From what a run took and wrote to what is said of it where the inputs and the output tell.
-use Rattle.std.proofs.Common.{◌≡◌, ◌≢◌, ◌≤◌, ◌<◌, ◌^◌, ◌⊎◌, ℕ, List, [], ◌∷◌, ◌++◌, length, true, false, Option, Some, None, refl, sym, ap, subst, ◌∙◌, arith, inl, inr, append-nil}
+use Rattle.std.proofs.Common.{◌≡◌, ◌≢◌, ◌≤◌, ◌<◌, ◌^◌, ℕ, List, [], ◌∷◌, ◌++◌, length, true, false, Option, Some, None, refl, sym, ap, subst, ◌∙◌, arith, inl, inr, append-nil}
 use Rattle.std.specs.Prelude.{IfSome, IsSome, IsNone, is_some, if◌then◌else◌}
 use Rattle.std.specs.Str.{bytes_eq}
 use Rattle.std.proofs.lemmas.Bool.{cond-true, cond-false, false_from_ne_true}
@@ -15,14 +15,13 @@ use Rattle.program_runs.proofs.FirstBlocks.{first-at}
 use Rattle.program_runs.proofs.HandedBlocks.{blocks-seen}
 use Rattle.program_runs.proofs.Inputs.{left-at, taken-at, takes-first_at, where_took, where_none}
 use Rattle.program_runs.proofs.Writing.{where_written}
-use Rattle.flowcheck_cli.specs.Checking.{WroteFirst, EndsRight, BeginsRight}
-use Rattle.flowcheck_cli.specs.Inputs.{Seen, WhereSeen, left_of, taken, bytes_without, TakesFirst, IsNoOther}
-use Rattle.flowcheck_cli.specs.Run.{BothSeen, WhereBothSeen, WhereWritten, AreLines, AreFirstLines, BeginsLines, BeginsPrinted, BeginsAt, IsPrintedWith, IsDone, Reads, Writes, blocks_at, graphs_left}
-use Rattle.flowcheck_cli.specs.Stops.{status_by}
-use Rattle.flowcheck_cli.specs.Inputs.{IsAtEnd}
+use Rattle.program_runs.specs.Inputs.{Seen, WhereSeen, left_of, taken, bytes_without, TakesFirst, IsAtEnd}
+use Rattle.block_runs.specs.Texts.{Wrote, IsFirst, BeginsEnd}
+use Rattle.block_runs.specs.Underway.{EndsRight}
+use Rattle.block_runs.specs.Whole.{IsNoOther, IsStopped}
+use Rattle.flowcheck_cli.specs.Checking.{BeginsRight}
+use Rattle.flowcheck_cli.specs.Run.{BothSeen, WhereBothSeen, WhereWritten, AreLines, AreAllLines, AreFirstLines, BeginsAt, BeginsLines, IsPrintedWith, IsDone, Reads, Writes, blocks_at, graphs_left}
 use Rattle.flowcheck_cli.specs.Words.{InputNames, names_of}
-use Rattle.flowcheck_cli.specs.declared.stop.Stop.{Stop}
-use Rattle.flowcheck_cli.specs.declared.stop.Stop.TheVariants.{Memory as OutOfMemory, Fault as Failed, Long as TooLong}
 
 -- names that differ
 names_differ : (a b : List ℕ) → a ≢ b → bytes_eq a b ≡ false
@@ -74,7 +73,7 @@ whole_end : (bytes rest : List ℕ) → rest ≡ [] → bytes ++ rest ≡ bytes
 whole_end bytes rest end = ap (λ r. bytes ++ r) end ∙ append-nil bytes
 
 reads-at : (names : InputNames) (reports : List ℕ) (status : Status) (first last : Option (Option Selected)) (before now : Option (List ℕ)) (rose : Type 0)
-    (right : EndsRight reports status first last before now rose) (rest : List ℕ) → names.graph ≢ names.report → length reports < 2 ^ 30 → (IsAtEnd last → rest ≡ []) →
+    (right : EndsRight (AreLines reports) (AreAllLines reports) status first last before now rose) (rest : List ℕ) → names.graph ≢ names.report → length reports < 2 ^ 30 → (IsAtEnd last → rest ≡ []) →
     Reads names status (at_graph names reports right.bytes rest)
 reads-at names reports status first last before now rose right rest differ short at_end = record {
   graph = takes-first_at names.graph right.bytes rest right.most;
@@ -134,9 +133,9 @@ of_done names reports status rose bytes rest text not_long not_fault not_memory 
 }
 
 -- a beginning of what is printed at the end
-printed_at : (reports bytes rest text : List ℕ) → rest ≡ [] → (BeginsLines reports (blocks bytes) text ⊎ BeginsPrinted bytes reports text) → BeginsAt reports bytes (Some rest) text
+printed_at : (reports bytes rest text : List ℕ) → rest ≡ [] → BeginsEnd (AreLines reports) (AreAllLines reports) (blocks bytes) text → BeginsAt reports bytes (Some rest) text
 printed_at reports bytes rest text end (inl lines) = inl (subst (λ r. BeginsLines reports (blocks_at bytes (Some r)) text) (sym end) lines)
-printed_at reports bytes rest text end (inr printed) = inr (ap Some end, printed)
+printed_at reports bytes rest text end (inr (more, status, (outcomes, printed, is))) = inr (ap Some end, (more, outcomes, printed))
 
 -- a run that could not select the graph text wrote nothing
 writes-none : (names : InputNames) (rose : Type 0) (graphs reports : List ℕ) → Writes names Fault rose (record { graphs = graphs; reports = reports; last = None }) []
@@ -151,7 +150,7 @@ writes-none names rose graphs reports = record {
 
 -- what was written after each status
 writes-at : (names : InputNames) (reports : List ℕ) (status : Status) (first last : Option (Option Selected)) (before now : Option (List ℕ)) (rose : Type 0)
-    (right : EndsRight reports status first last before now rose) (rest : List ℕ) → (IsAtEnd last → rest ≡ []) →
+    (right : EndsRight (AreLines reports) (AreAllLines reports) status first last before now rose) (rest : List ℕ) → (IsAtEnd last → rest ≡ []) →
     Written names status rose (at_graph names reports right.bytes rest) before now
 writes-at names reports Clean first last before now rose right rest at_end =
     let done = right.done tt in
@@ -175,9 +174,9 @@ writes-at names reports Long first last before now rose right rest at_end =
       memory = λ e _. absurd (let no' : ⊥ = cc in no');
     })
 writes-at names reports Memory first last before now rose right rest at_end =
-    let wrote : WroteFirst reports (blocks_at right.bytes (Some rest)) before now = elim (right.memory refl) [
+    let wrote : Wrote (IsFirst (AreLines reports) (blocks_at right.bytes (Some rest))) before now = elim (right.memory refl) [
       | inl some ↦ (some.0, first-at (λ l. AreLines reports l some.0) right.bytes rest some.1, some.2)
-      | inr all ↦ subst (λ r. WroteFirst reports (blocks_at right.bytes (Some r)) before now) (sym (at_end all.0)) all.1
+      | inr all ↦ subst (λ r. Wrote (IsFirst (AreLines reports) (blocks_at right.bytes (Some r))) before now) (sym (at_end all.0)) all.1
     ] in
     where_written _ before now wrote.0 wrote.2 (record {
       done = λ h. absurd h;
@@ -230,64 +229,64 @@ not_graph : (names : InputNames) (last : Option Selected) → names.graph ≢ na
 not_graph names None differ only = refl
 not_graph names (Some s) differ only = not_named names.graph s (λ same. differ (sym same ∙ only))
 
-not_done : (stop : Stop) → IsDone (status_by stop) → ⊥
-not_done OutOfMemory done = done
-not_done Failed done = done
-not_done TooLong done = done
-
-too_long : (stop : Stop) → status_by stop ≡ Long → stop ≡ TooLong
-too_long OutOfMemory is = absurd (let no' : ⊥ = cc in no')
-too_long Failed is = absurd (let no' : ⊥ = cc in no')
-too_long TooLong is = refl
+not_done : (status : Status) → IsStopped status → IsDone status → ⊥
+not_done Clean stopped done = stopped
+not_done Partial stopped done = stopped
+not_done Refused stopped done = stopped
+not_done Words stopped done = done
+not_done Fault stopped done = done
+not_done Memory stopped done = done
+not_done Long stopped done = done
 
 -- what is told of a run that stopped so
-pub record Stopped (names : InputNames) (stop : Stop) (seen : Seen) : Type 0 where
+pub record Stopped (names : InputNames) (status : Status) (seen : Seen) : Type 0 where
+  pub stopped : IsStopped status
   pub report : TakesFirst names.report seen
   pub absent : left_of names.graph seen.last ≡ None
-  pub long : stop ≡ TooLong → length (taken names.report seen) ≡ 2 ^ 30
+  pub long : status ≡ Long → length (taken names.report seen) ≡ 2 ^ 30
 
-stopped-at : (names : InputNames) (stop : Stop) (held : Option (List ℕ)) (last : Option (Option Selected)) → names.graph ≢ names.report → WhereSeen held last (TakesFirst names.report) →
-    IfSome last (IsNoOther names.report) → (stop ≡ TooLong → WhereSeen held last (λ seen. length (taken names.report seen) ≡ 2 ^ 30)) → WhereSeen held last (Stopped names stop)
-stopped-at names stop None last differ first only long = tt
-stopped-at names stop (Some held) None differ first only long = tt
-stopped-at names stop (Some held) (Some last) differ first only long = record { report = first; absent = not_graph names last differ only; long = long }
+stopped-at : (names : InputNames) (status : Status) (held : Option (List ℕ)) (last : Option (Option Selected)) → IsStopped status → names.graph ≢ names.report → WhereSeen held last (TakesFirst names.report) →
+    IfSome last (IsNoOther names.report) → (status ≡ Long → WhereSeen held last (λ seen. length (taken names.report seen) ≡ 2 ^ 30)) → WhereSeen held last (Stopped names status)
+stopped-at names status None last stopped differ first only long = tt
+stopped-at names status (Some held) None stopped differ first only long = tt
+stopped-at names status (Some held) (Some last) stopped differ first only long = record { stopped = stopped; report = first; absent = not_graph names last differ only; long = long }
 
-reads-stopped-at : (names : InputNames) (stop : Stop) (graphs : List ℕ) (seen : Seen) → Stopped names stop seen → Reads names (status_by stop) (record { graphs = graphs; reports = seen.held; last = seen.last })
-reads-stopped-at names stop graphs seen stopped = record {
-  graph = absent names.graph (record { held = graphs; last = seen.last }) stopped.absent;
-  report = stopped.report;
-  reports_first = λ h. never_some _ stopped.absent h;
-  ended = λ done. absurd (not_done stop done);
-  long = λ is. inl (stopped.long (too_long stop is));
-  verdict = λ done. absurd (not_done stop done);
+reads-stopped-at : (names : InputNames) (status : Status) (graphs : List ℕ) (seen : Seen) → Stopped names status seen → Reads names status (record { graphs = graphs; reports = seen.held; last = seen.last })
+reads-stopped-at names status graphs seen h = record {
+  graph = absent names.graph (record { held = graphs; last = seen.last }) h.absent;
+  report = h.report;
+  reports_first = λ some. never_some _ h.absent some;
+  ended = λ done. absurd (not_done status h.stopped done);
+  long = λ is. inl (h.long is);
+  verdict = λ done. absurd (not_done status h.stopped done);
 }
 
-pub reads-stopped : (names : InputNames) (stop : Stop) (held_graph held_report : Option (List ℕ)) (last : Option (Option Selected)) → names.graph ≢ names.report →
+pub reads-stopped : (names : InputNames) (status : Status) (held_graph held_report : Option (List ℕ)) (last : Option (Option Selected)) → IsStopped status → names.graph ≢ names.report →
     WhereSeen held_report last (TakesFirst names.report) → IfSome last (IsNoOther names.report) →
-    (stop ≡ TooLong → WhereSeen held_report last (λ seen. length (taken names.report seen) ≡ 2 ^ 30)) → WhereBothSeen held_graph held_report last (Reads names (status_by stop))
-reads-stopped names stop held_graph held_report last differ first only long =
-    where_neither (Reads names (status_by stop)) (Stopped names stop) held_graph held_report last (stopped-at names stop held_report last differ first only long)
-    (λ graphs seen stopped. reads-stopped-at names stop graphs seen stopped)
+    (status ≡ Long → WhereSeen held_report last (λ seen. length (taken names.report seen) ≡ 2 ^ 30)) → WhereBothSeen held_graph held_report last (Reads names status)
+reads-stopped names status held_graph held_report last stopped differ first only long =
+    where_neither (Reads names status) (Stopped names status) held_graph held_report last (stopped-at names status held_report last stopped differ first only long)
+    (λ graphs seen s. reads-stopped-at names status graphs seen s)
 
-writes-stopped-at : (names : InputNames) (stop : Stop) (rose : Type 0) (graphs : List ℕ) (seen : Seen) → Stopped names stop seen →
-    Writes names (status_by stop) rose (record { graphs = graphs; reports = seen.held; last = seen.last }) []
-writes-stopped-at names stop rose graphs seen stopped = record {
-  done = λ done. absurd (not_done stop done);
+writes-stopped-at : (names : InputNames) (status : Status) (rose : Type 0) (graphs : List ℕ) (seen : Seen) → Stopped names status seen →
+    Writes names status rose (record { graphs = graphs; reports = seen.held; last = seen.last }) []
+writes-stopped-at names status rose graphs seen h = record {
+  done = λ done. absurd (not_done status h.stopped done);
   nothing = λ _. refl;
-  long = λ is. inl (stopped.long (too_long stop is), refl);
-  fault = λ _ h. never_some _ stopped.absent h;
-  written = λ _ h _. never_some _ stopped.absent h;
-  memory = λ _ h. never_some _ stopped.absent h;
+  long = λ is. inl (h.long is, refl);
+  fault = λ _ some. never_some _ h.absent some;
+  written = λ _ some _. never_some _ h.absent some;
+  memory = λ _ some. never_some _ h.absent some;
 }
 
-pub writes-stopped : (names : InputNames) (stop : Stop) (rose : Type 0) (held_graph held_report : Option (List ℕ)) (last : Option (Option Selected)) (told : Option (List ℕ)) →
-    names.graph ≢ names.report → WhereSeen held_report last (TakesFirst names.report) → IfSome last (IsNoOther names.report) →
-    (stop ≡ TooLong → WhereSeen held_report last (λ seen. length (taken names.report seen) ≡ 2 ^ 30)) →
-    WhereBothSeen held_graph held_report last (λ seen. WhereWritten told told (Writes names (status_by stop) rose seen))
-writes-stopped names stop rose held_graph held_report last told differ first only long =
-    where_neither (λ seen. WhereWritten told told (Writes names (status_by stop) rose seen)) (Stopped names stop) held_graph held_report last
-    (stopped-at names stop held_report last differ first only long)
-    (λ graphs seen stopped. where_written _ told told [] (Adds-nothing told) (writes-stopped-at names stop rose graphs seen stopped))
+pub writes-stopped : (names : InputNames) (status : Status) (rose : Type 0) (held_graph held_report : Option (List ℕ)) (last : Option (Option Selected)) (told : Option (List ℕ)) →
+    IsStopped status → names.graph ≢ names.report → WhereSeen held_report last (TakesFirst names.report) → IfSome last (IsNoOther names.report) →
+    (status ≡ Long → WhereSeen held_report last (λ seen. length (taken names.report seen) ≡ 2 ^ 30)) →
+    WhereBothSeen held_graph held_report last (λ seen. WhereWritten told told (Writes names status rose seen))
+writes-stopped names status rose held_graph held_report last told stopped differ first only long =
+    where_neither (λ seen. WhereWritten told told (Writes names status rose seen)) (Stopped names status) held_graph held_report last
+    (stopped-at names status held_report last stopped differ first only long)
+    (λ graphs seen s. where_written _ told told [] (Adds-nothing told) (writes-stopped-at names status rose graphs seen s))
 
 -- two words that name two inputs differ
 pair_differ : (graph report : List ℕ) (names : InputNames) →
@@ -315,10 +314,8 @@ begins_not_words graph reports status held last before now rose (inl (is, none, 
     let no : Fault ≡ Words = sym is ∙ words in absurd (let no' : ⊥ = cc in no')
 begins_not_words graph reports status held last before now rose (inr (first, starts, right)) words = right.not_words words
 
-pub stop_not_words : (stop : Stop) → status_by stop ≡ Words → ⊥
-stop_not_words OutOfMemory is = cc
-stop_not_words Failed is = cc
-stop_not_words TooLong is = cc
+pub stop_not_words : (status : Status) → IsStopped status → status ≡ Words → ⊥
+stop_not_words status stopped is = subst IsStopped is stopped
 
 -- words that name two inputs name some
 pub some_not_none : (named : Option InputNames) (names : InputNames) → named ≡ Some names → IsNone named → ⊥

@@ -1,19 +1,18 @@
 -- Outcomes and lines that grow by one block after another.
-use Rattle.std.proofs.Common.{◌≡◌, ℕ, ◌+◌, List, [], ◌∷◌, ◌++◌, length, take, drop, Option, refl, sym, ◌∙◌, ap, subst, append_assoc, append-nil, zero-add, arith}
-use Rattle.flow_io.specs.Outside.{Adds, AddsPrefix}
+use Rattle.std.proofs.Common.{◌≡◌, ℕ, ◌+◌, ◌≤◌, ◌<◌, ◌^◌, List, [], ◌∷◌, ◌++◌, length, take, drop, Option, refl, sym, ◌∙◌, ap, subst, append_assoc, append-nil, length-append, arith}
+use Rattle.std.proofs.lemmas.List.{take-append-drop}
+use Rattle.flow_io.specs.Outside.{AddsPrefix}
 use Rattle.flow_io.specs.declared.status.Status.TheVariants.{Clean}
-use Rattle.flow_io.proofs.Adding.{Adds-nothing, Adds-then}
 use Rattle.decomposition.specs.declared.Mode.{Mode}
-use Rattle.graph_text.specs.Blocks.{TextBlock, numbered, blocks, graphs, groups_of, lead}
-use Rattle.program_runs.specs.HandedBlocks.{IsHandedFor}
-use Rattle.program_runs.proofs.FirstBlocks.{first-more, first-all}
-use Rattle.program_runs.proofs.Parts.{parts-joined}
-use Rattle.flowcheck_cli.specs.CheckLines.{AreOutcomes, outcome_lines, outcome_line, status_of}
+use Rattle.graph_text.specs.Blocks.{TextBlock}
 use Rattle.graph_text.specs.declared.block.Block.{Block}
+use Rattle.program_runs.specs.HandedBlocks.{IsHandedFor}
+use Rattle.block_runs.specs.Answering.{IsCutOff, IsRightAndMayBeCut}
+use Rattle.flowcheck_cli.specs.CheckLines.{AreOutcomes, ArePrinted, outcome_lines, outcome_line, status_of}
 use Rattle.flowcheck_cli.specs.Outcomes.{IsOutcome}
-use Rattle.flowcheck_cli.specs.ReportTexts.{report_texts, model_in, line_count}
-use Rattle.flowcheck_cli.specs.Run.{AreLines, AreFirstLines}
-use Rattle.flowcheck_cli.specs.Checking.{texts_behind, line_behind, last_number, HasChecked, Wrote, WroteFirst, WroteBeginning}
+use Rattle.flowcheck_cli.specs.ReportTexts.{Left, report_texts, model_in, line_count}
+use Rattle.flowcheck_cli.specs.Run.{AreLines}
+use Rattle.flowcheck_cli.specs.Checking.{texts_behind, line_behind, IsShort, Checks}
 use Rattle.flowcheck_cli.specs.declared.checking.Checking.{Checking}
 use Rattle.flowcheck_cli.specs.declared.outcome.Outcome.{Outcome}
 
@@ -80,126 +79,116 @@ behind-same at [] texts block left =
 behind-same at (first ∷ shown) [] block left = (refl, refl)
 behind-same at (first ∷ shown) (one ∷ texts) block left = behind-same (at + line_count one) shown texts block left
 
--- the number of the last block
-last_number-more : (n : ℕ) (shown : List TextBlock) (block : TextBlock) → last_number n (shown ++ block ∷ []) ≡ block.index
-last_number-more n [] block = refl
-last_number-more n (first ∷ shown) block = last_number-more first.index shown block
-
-last_number-numbered : (n line : ℕ) (groups : List (List (List ℕ))) → last_number n (numbered (n + 1) line groups) ≡ n + length (numbered (n + 1) line groups)
-last_number-numbered n line [] = omega arith
-last_number-numbered n line (group ∷ groups) =
-    let next = last_number-numbered (n + 1) (line + length group) groups in omega (arith, next)
-
-pub last_number-blocks : (bytes : List ℕ) → last_number 0 (blocks bytes) ≡ length (blocks bytes)
-last_number-blocks bytes = last_number-numbered 0 (length (lead bytes) + 1) (graphs (groups_of bytes)) ∙ zero-add (length (blocks bytes))
-
 -- a block is handed out with its number
 pub index-handed : (mode : Mode) (asked : TextBlock) (block : Block) → IsHandedFor mode asked block → block.index ≡ asked.index
 index-handed mode asked block handed = let index : Block → ℕ = λ b. b.index in sym (ap index handed.is_handed)
 
 -- nothing is checked yet
-pub Wrote-nothing : (reports : List ℕ) (told : Option (List ℕ)) →
-    Wrote reports (record { mode = model_in reports; rest = record { line = 1; bytes = reports }; blocks = 0; status = Clean }) [] told told
-Wrote-nothing reports told = record {
+pub checks-nothing : (c : Checking) → c.mode ≡ model_in c.reports.now → c.rest ≡ record { line = 1; bytes = c.reports.now } → c.blocks ≡ 0 → c.status ≡ Clean →
+    length c.reports.now < 2 ^ 30 → Checks c c [] []
+checks-nothing c mode rest blocks status short = record {
+  begun = record { mode_is = mode; short = short };
+  reports_are = refl;
+  left_short = subst (λ (r : Left). r.line + length r.bytes ≤ 2 ^ 30) (sym rest) (omega (arith, short));
   outcomes = [];
-  checked = record { mode_is = refl; outcomes_are = refl; status_is = refl; blocks_are = refl; texts_left = refl; line_is = refl };
-  adds = Adds-nothing told;
+  checked = record {
+    mode_is = mode;
+    outcomes_are = refl;
+    status_is = status;
+    blocks_are = blocks;
+    texts_left = sym (ap (λ (r : Left). report_texts r.bytes) rest);
+    line_is = sym (ap (λ (r : Left). r.line) rest);
+  };
+  text_is = refl;
 }
 
--- one block more that has a text
-more_checked : (reports : List ℕ) (old new : Checking) (shown : List TextBlock) (outcomes : List Outcome) (block : TextBlock) (text : List ℕ) (outcome : Outcome) →
-    HasChecked reports old shown outcomes → IsOutcome old.mode block old.rest.line text outcome →
-    report_texts old.rest.bytes ≡ text ∷ report_texts new.rest.bytes → new.rest.line ≡ old.rest.line + line_count text →
-    new.mode ≡ old.mode → new.blocks ≡ block.index → new.status ≡ status_of (outcomes ++ outcome ∷ []) →
-    HasChecked reports new (shown ++ block ∷ []) (outcomes ++ outcome ∷ [])
-more_checked reports old new shown outcomes block text outcome checked is texts line mode number status =
-    let left = checked.texts_left ∙ texts in
-    let behind = behind-more 1 shown (report_texts reports) block text (report_texts new.rest.bytes) left in
+-- one block more that has a text, and its line
+one_more : (first old : Checking) (shown : List TextBlock) (before : List ℕ) (block : TextBlock) (text : List ℕ) (rest : List (List ℕ)) (outcome : Outcome) (h : Checks first old shown before) →
+    IsOutcome old.mode block old.rest.line text outcome → report_texts old.rest.bytes ≡ text ∷ rest →
+    ArePrinted first.reports.now (shown ++ block ∷ []) (h.outcomes ++ outcome ∷ []) (before ++ outcome_line block.index outcome)
+one_more first old shown before block text rest outcome h is texts =
+    let reports = first.reports.now in
+    let left = h.checked.texts_left ∙ texts in
     let placed : IsOutcome (model_in reports) block (line_behind 1 shown (report_texts reports)) text outcome =
-    subst (λ m. IsOutcome m block (line_behind 1 shown (report_texts reports)) text outcome) checked.mode_is
-    (subst (λ at. IsOutcome old.mode block at text outcome) (sym checked.line_is) is) in
+    subst (λ m. IsOutcome m block (line_behind 1 shown (report_texts reports)) text outcome) h.checked.mode_is
+    (subst (λ at. IsOutcome old.mode block at text outcome) (sym h.checked.line_is) is) in
     record {
-      mode_is = mode ∙ checked.mode_is;
-      outcomes_are = outcomes-more (model_in reports) 1 shown (report_texts reports) outcomes block text (report_texts new.rest.bytes) outcome checked.outcomes_are left placed;
-      status_is = status;
-      blocks_are = number ∙ sym (last_number-more 0 shown block);
-      texts_left = behind.0;
-      line_is = behind.1 ∙ ap (λ at. at + line_count text) checked.line_is ∙ sym line;
+      outcomes_are = outcomes-more (model_in reports) 1 shown (report_texts reports) h.outcomes block text rest outcome h.checked.outcomes_are left placed;
+      lines_are = ap (λ t. t ++ outcome_line block.index outcome) h.text_is
+          ∙ sym (lines-more (model_in reports) 1 shown (report_texts reports) h.outcomes block text rest outcome h.checked.outcomes_are left);
     }
 
-pub Wrote-more : (reports : List ℕ) (old new : Checking) (shown : List TextBlock) (before was now : Option (List ℕ)) (block : TextBlock) (text : List ℕ) (outcome : Outcome) →
-    Wrote reports old shown before was → IsOutcome old.mode block old.rest.line text outcome →
-    report_texts old.rest.bytes ≡ text ∷ report_texts new.rest.bytes → new.rest.line ≡ old.rest.line + line_count text →
-    new.mode ≡ old.mode → new.blocks ≡ block.index →
+-- how many blocks there are with one more
+one_longer : (shown : List TextBlock) (block : TextBlock) (n : ℕ) → n ≡ length shown → n + 1 ≡ length (shown ++ block ∷ [])
+one_longer shown block n is = omega (arith, is, length-append shown (block ∷ []))
+
+pub checks-more : (first old new : Checking) (shown : List TextBlock) (before : List ℕ) (block : TextBlock) (text : List ℕ) (outcome : Outcome) (index : ℕ) → index ≡ block.index →
+    Checks first old shown before → IsOutcome old.mode block old.rest.line text outcome →
+    report_texts old.rest.bytes ≡ text ∷ report_texts new.rest.bytes → new.rest.line ≡ old.rest.line + line_count text → IsShort new →
+    new.reports.now ≡ old.reports.now → new.mode ≡ old.mode → new.blocks ≡ old.blocks + 1 →
     ((outcomes : List Outcome) → old.status ≡ status_of outcomes → new.status ≡ status_of (outcomes ++ outcome ∷ [])) →
-    Adds was now (outcome_line block.index outcome) → Wrote reports new (shown ++ block ∷ []) before now
-Wrote-more reports old new shown before was now block text outcome wrote is texts line mode number status adds =
-    let left = wrote.checked.texts_left ∙ texts in
-    let lines = lines-more (model_in reports) 1 shown (report_texts reports) wrote.outcomes block text (report_texts new.rest.bytes) outcome wrote.checked.outcomes_are left in
+    Checks first new (shown ++ block ∷ []) (before ++ outcome_line index outcome)
+checks-more first old new shown before block text outcome index named h is texts line short reports mode number status =
+    let all = report_texts first.reports.now in
+    let more = one_more first old shown before block text (report_texts new.rest.bytes) outcome h is texts in
+    let behind = behind-more 1 shown all block text (report_texts new.rest.bytes) (h.checked.texts_left ∙ texts) in
     record {
-      outcomes = wrote.outcomes ++ outcome ∷ [];
-      checked = more_checked reports old new shown wrote.outcomes block text outcome wrote.checked is texts line mode number (status wrote.outcomes wrote.checked.status_is);
-      adds = subst (Adds before now) (sym lines) (Adds-then before was now (outcome_lines shown wrote.outcomes) (outcome_line block.index outcome) wrote.adds adds);
+      begun = h.begun;
+      reports_are = reports ∙ h.reports_are;
+      left_short = short;
+      outcomes = h.outcomes ++ outcome ∷ [];
+      checked = record {
+        mode_is = mode ∙ h.checked.mode_is;
+        outcomes_are = more.outcomes_are;
+        status_is = status h.outcomes h.checked.status_is;
+        blocks_are = number ∙ one_longer shown block old.blocks h.checked.blocks_are;
+        texts_left = behind.0;
+        line_is = behind.1 ∙ ap (λ at. at + line_count text) h.checked.line_is ∙ sym line;
+      };
+      text_is = ap (λ k. before ++ outcome_line k outcome) named ∙ more.lines_are;
     }
 
 -- one block more that has no text
-pub Wrote-same : (reports : List ℕ) (old new : Checking) (shown : List TextBlock) (before now : Option (List ℕ)) (block : TextBlock) →
-    Wrote reports old shown before now → report_texts old.rest.bytes ≡ [] → new.rest ≡ old.rest → new.mode ≡ old.mode → new.blocks ≡ block.index → new.status ≡ old.status →
-    Wrote reports new (shown ++ block ∷ []) before now
-Wrote-same reports old new shown before now block wrote none rest mode number status =
-    let checked = wrote.checked in
-    let left = checked.texts_left ∙ none in
-    let behind = behind-same 1 shown (report_texts reports) block left in
-    let lines = lines-same (model_in reports) 1 shown (report_texts reports) wrote.outcomes block checked.outcomes_are left in
+pub checks-same : (first old new : Checking) (shown : List TextBlock) (before : List ℕ) (block : TextBlock) →
+    Checks first old shown before → report_texts old.rest.bytes ≡ [] → new.rest ≡ old.rest →
+    new.reports.now ≡ old.reports.now → new.mode ≡ old.mode → new.blocks ≡ old.blocks + 1 → new.status ≡ old.status →
+    Checks first new (shown ++ block ∷ []) (before ++ [])
+checks-same first old new shown before block h none rest reports mode number status =
+    let all = report_texts first.reports.now in
+    let left = h.checked.texts_left ∙ none in
+    let behind = behind-same 1 shown all block left in
+    let asked = model_in first.reports.now in
     record {
-      outcomes = wrote.outcomes;
+      begun = h.begun;
+      reports_are = reports ∙ h.reports_are;
+      left_short = subst (λ (r : Left). r.line + length r.bytes ≤ 2 ^ 30) (sym rest) h.left_short;
+      outcomes = h.outcomes;
       checked = record {
-        mode_is = mode ∙ checked.mode_is;
-        outcomes_are = outcomes-same (model_in reports) 1 shown (report_texts reports) wrote.outcomes block checked.outcomes_are left;
-        status_is = status ∙ checked.status_is;
-        blocks_are = number ∙ sym (last_number-more 0 shown block);
-        texts_left = behind.0 ∙ sym (ap (λ r. report_texts r.bytes) rest ∙ none);
-        line_is = behind.1 ∙ checked.line_is ∙ sym (ap (λ r. r.line) rest);
+        mode_is = mode ∙ h.checked.mode_is;
+        outcomes_are = outcomes-same asked 1 shown all h.outcomes block h.checked.outcomes_are left;
+        status_is = status ∙ h.checked.status_is;
+        blocks_are = number ∙ one_longer shown block old.blocks h.checked.blocks_are;
+        texts_left = behind.0 ∙ sym (ap (λ (r : Left). report_texts r.bytes) rest ∙ none);
+        line_is = behind.1 ∙ h.checked.line_is ∙ sym (ap (λ (r : Left). r.line) rest);
       };
-      adds = subst (Adds before now) (sym lines) wrote.adds;
+      text_is = append-nil before ∙ h.text_is ∙ sym (lines-same asked 1 shown all h.outcomes block h.checked.outcomes_are left);
     }
 
--- what was written
-pub Wrote-lines : (reports : List ℕ) (checking : Checking) (shown : List TextBlock) (before now : Option (List ℕ)) (wrote : Wrote reports checking shown before now) →
-    AreLines reports shown (outcome_lines shown wrote.outcomes)
-Wrote-lines reports checking shown before now wrote = (wrote.outcomes, record { outcomes_are = wrote.checked.outcomes_are; lines_are = refl })
-
-pub Wrote-first : (reports : List ℕ) (checking : Checking) (shown others : List TextBlock) (before now : Option (List ℕ)) →
-    Wrote reports checking shown before now → WroteFirst reports (shown ++ others) before now
-Wrote-first reports checking shown others before now wrote =
-    (outcome_lines shown wrote.outcomes, first-more (λ l. AreLines reports l (outcome_lines shown wrote.outcomes)) shown others (Wrote-lines reports checking shown before now wrote), wrote.adds)
-
 -- a line that is cut off
-pub Wrote-cut : (reports : List ℕ) (old : Checking) (shown : List TextBlock) (before was now : Option (List ℕ)) (block : TextBlock) (text : List ℕ) (rest : List (List ℕ)) (outcome : Outcome) →
-    Wrote reports old shown before was → IsOutcome old.mode block old.rest.line text outcome → report_texts old.rest.bytes ≡ text ∷ rest →
-    AddsPrefix was now (outcome_line block.index outcome) → WroteBeginning reports (shown ++ block ∷ []) before now
-Wrote-cut reports old shown before was now block text rest outcome wrote is texts adds =
-    let checked = wrote.checked in
-    let left = checked.texts_left ∙ texts in
-    let lines = outcome_lines shown wrote.outcomes in
+pub checks-cut : (old : Checking) (block : Block) (text : List ℕ) (rest : List (List ℕ)) (outcome : Outcome) (was now : Option (List ℕ)) →
+    ((asked : TextBlock) → IsHandedFor old.mode asked block → IsOutcome old.mode asked old.rest.line text outcome) →
+    report_texts old.rest.bytes ≡ text ∷ rest → AddsPrefix was now (outcome_line block.index outcome) →
+    IsCutOff {W = Checking} old.mode block (λ first shown text. Checks first old shown text)
+    (IsRightAndMayBeCut {W = Checking} (λ _. Unit {0}) (λ w shown text. AreLines w.reports.now shown text)) was now
+checks-cut old block text rest outcome was now is texts adds =
     let piece = outcome_line block.index outcome in
-    let n = adds.0 in
-    let placed : IsOutcome (model_in reports) block (line_behind 1 shown (report_texts reports)) text outcome =
-    subst (λ m. IsOutcome m block (line_behind 1 shown (report_texts reports)) text outcome) checked.mode_is
-    (subst (λ at. IsOutcome old.mode block at text outcome) (sym checked.line_is) is) in
-    let joined : outcome_lines (shown ++ block ∷ []) (wrote.outcomes ++ outcome ∷ []) ≡ (lines ++ take n piece) ++ drop n piece =
-    lines-more (model_in reports) 1 shown (report_texts reports) wrote.outcomes block text rest outcome checked.outcomes_are left
-    ∙ parts-joined lines piece n in
-    let whole : AreLines reports (shown ++ block ∷ []) ((lines ++ take n piece) ++ drop n piece) = (
-      wrote.outcomes ++ outcome ∷ [],
-      record {
-        outcomes_are = outcomes-more (model_in reports) 1 shown (report_texts reports) wrote.outcomes block text rest outcome checked.outcomes_are left placed;
-        lines_are = sym joined;
-      },
-    ) in
-    let firsts : AreFirstLines reports (shown ++ block ∷ []) ((lines ++ take n piece) ++ drop n piece) =
-    first-all (λ l. AreLines reports l ((lines ++ take n piece) ++ drop n piece)) (shown ++ block ∷ []) whole in (
-      lines ++ take n piece,
-      (drop n piece, firsts),
-      Adds-then before was now lines (take n piece) wrote.adds adds.2,
+    let n = adds.0 in (
+      take n piece,
+      drop n piece,
+      adds.2,
+      λ asked handed first shown before h.
+          let more = one_more first old shown before asked text rest outcome h (is asked handed) texts in
+          let joined : before ++ (take n piece ++ drop n piece) ≡ before ++ outcome_line asked.index outcome =
+          ap (λ p. before ++ p) (take-append-drop n piece ∙ ap (λ k. outcome_line k outcome) (index-handed old.mode asked block handed)) in
+          (tt, (h.outcomes ++ outcome ∷ [], record { outcomes_are = more.outcomes_are; lines_are = joined ∙ more.lines_are })),
     )

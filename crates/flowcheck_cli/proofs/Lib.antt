@@ -4,10 +4,7 @@ mod Models
 mod ReportSizes
 mod TextCuts
 pub mod Answering
-mod Taken
 mod Growing
-mod Underways
-mod RunEnds
 mod Counting
+mod Numbers
 mod Accounts
-mod Pieces

@@ -57,11 +57,15 @@ pub record ArePrinted (reports : List ℕ) (shown : List TextBlock) (outcomes : 
   pub outcomes_are : AreOutcomes (model_in reports) 1 shown (report_texts reports) outcomes
   pub lines_are : printed ≡ outcome_lines shown outcomes
 
--- All that is printed for a graph text and a text of reports, and the outcomes: the lines of all blocks that have a text, and where the
--- numbers of blocks and texts differ a line of both.
-pub record IsPrinted (graphs reports : List ℕ) (outcomes : List Outcome) (printed : List ℕ) : Type 0 where
-  pub outcomes_are : AreOutcomes (model_in reports) 1 (blocks graphs) (report_texts reports) outcomes
-  pub lines_are : printed ≡ outcome_lines (blocks graphs) outcomes ++ counts_line_if_other (length (blocks graphs)) (length (report_texts reports))
+-- All that is printed for all blocks of a graph text and a text of reports, and the outcomes: the lines of all blocks that have a text, and
+-- where the numbers of blocks and texts differ a line of both.
+pub record AreAllPrinted (shown : List TextBlock) (reports : List ℕ) (outcomes : List Outcome) (printed : List ℕ) : Type 0 where
+  pub outcomes_are : AreOutcomes (model_in reports) 1 shown (report_texts reports) outcomes
+  pub lines_are : printed ≡ outcome_lines shown outcomes ++ counts_line_if_other (length shown) (length (report_texts reports))
+
+-- the same for a graph text
+abbrev pub IsPrinted : List ℕ → List ℕ → List Outcome → List ℕ → Type 0
+IsPrinted graphs reports outcomes printed = AreAllPrinted (blocks graphs) reports outcomes printed
 
 abbrev pub is_yes : Outcome → Bool
 is_yes Yes = true

@@ -4,10 +4,7 @@ pub mod ReportTexts
 pub mod Short
 pub mod YesIsTrue
 pub mod RightReports
-pub mod Stops
 pub mod Notes
 pub mod Words
-pub mod Inputs
 pub mod Run
 pub mod Checking
-pub mod Carrying

@@ -7,8 +7,8 @@ use Rattle.flow_io.specs.Outside.{Selected}
 use Rattle.flow_io.specs.declared.status.Status.{Status}
 use Rattle.flow_io.specs.declared.status.Status.TheVariants.{Fault, Memory, Long}
 use Rattle.graph_text.specs.Blocks.{TextBlock, blocks, complete}
-use Rattle.flowcheck_cli.specs.CheckLines.{ArePrinted, IsPrinted, status_of_all}
-use Rattle.flowcheck_cli.specs.Inputs.{Seen, left_of, taken, TakesFirst}
+use Rattle.flowcheck_cli.specs.CheckLines.{ArePrinted, AreAllPrinted, IsPrinted, status_of_all}
+use Rattle.program_runs.specs.Inputs.{Seen, left_of, taken, TakesFirst}
 use Rattle.flowcheck_cli.specs.ReportTexts.{report_texts}
 use Rattle.flowcheck_cli.specs.Words.{InputNames}
 use Rattle.flowcheck_cli.specs.declared.outcome.Outcome.{Outcome}
@@ -60,10 +60,14 @@ AreFirstLines reports shown text = (n : ℕ) × AreLines reports (take n shown) 
 abbrev pub BeginsLines : List ℕ → List TextBlock → List ℕ → Type 0
 BeginsLines reports shown text = (rest : List ℕ) × AreFirstLines reports shown (text ++ rest)
 
--- the text is all that is printed, and the status is that of its outcomes
+-- the text is all that is printed for these blocks, which are all, and the status is that of its outcomes
+abbrev pub AreAllLines : List ℕ → Status → List TextBlock → List ℕ → Type 0
+AreAllLines reports status shown text = (outcomes : List Outcome) × AreAllPrinted shown reports outcomes text
+    × (status ≡ status_of_all (length shown) (length (report_texts reports)) outcomes)
+
+-- the same for a graph text
 abbrev pub IsPrintedWith : List ℕ → List ℕ → Status → List ℕ → Type 0
-IsPrintedWith graphs reports status text = (outcomes : List Outcome) × IsPrinted graphs reports outcomes text
-    × (status ≡ status_of_all (length (blocks graphs)) (length (report_texts reports)) outcomes)
+IsPrintedWith graphs reports status text = AreAllLines reports status (blocks graphs) text
 
 -- the text is a beginning of all that is printed
 abbrev pub BeginsPrinted : List ℕ → List ℕ → List ℕ → Type 0

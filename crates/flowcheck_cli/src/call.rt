@@ -6,10 +6,10 @@ ghost use Rattle.flowcheck_cli.specs.Notes.{Notes, note_of};
 ghost use Rattle.flowcheck_cli.specs.Run.{WhereBothSeen, WhereWritten, Reads, Writes};
 ghost use Rattle.flowcheck_cli.specs.Words.{texts, names_of};
 
-use crate::graphs::check_graphs;
-use crate::input::read_input;
+use crate::checking::Checking;
 use crate::telling::tell;
 use crate::words::Names;
+use block_runs::{read_input, run_selected};
 use flow_io::{Inputs, Output, Status};
 use std::alloc::Global;
 
@@ -101,7 +101,7 @@ fn run_inputs<I: Inputs, O: Output>(
 {
     match read_input(alloc, report, inputs) {
         Ok(reports) => check_input(alloc, graph, reports.as_slice(), inputs, out),
-        Err(stop) => stop.status(),
+        Err(status) => status,
     }
 }
 
@@ -125,5 +125,6 @@ fn check_input<I: Inputs, O: Output>(
     if inputs.select(graph).is_err() {
         return Status::Fault;
     }
-    check_graphs(alloc, reports, inputs, out)
+    let mut checking = Checking::of(reports);
+    run_selected(alloc, &mut checking, inputs, out)
 }

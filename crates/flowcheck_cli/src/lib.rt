@@ -3,10 +3,7 @@
 
 mod call;
 mod checking;
-mod ending;
 pub mod examples;
-mod graphs;
-mod input;
 mod judging;
 mod laws;
 mod model;
@@ -15,7 +12,6 @@ mod printing;
 mod rest;
 mod right_reports;
 mod short_line;
-mod stop;
 mod telling;
 mod verdicts;
 mod words;

@@ -1,5 +1,5 @@
 //! The texts that a text of reports is cut into, one after another.
-ghost use Rattle.std.specs.Prelude.{◌≡◌, ◌≤◌, ◌<◌, ◌+◌, ◌==◌, [], ◌∷◌, ◌++◌, length, take, drop};
+ghost use Rattle.std.specs.Prelude.{◌≡◌, ◌≤◌, ◌<◌, ◌+◌, ◌^◌, ◌==◌, [], ◌∷◌, ◌++◌, length, take, drop};
 ghost use Rattle.std.specs.List.{position};
 ghost use Rattle.flowcheck_cli.specs.ReportTexts.{ended_lines, report_texts, line_count};
 
@@ -62,6 +62,19 @@ impl<'a> Rest<'a> {
         self.bytes = rest;
         Some(Text { line, bytes: text })
     }
+}
+
+/// How many texts there are.
+pub(crate) fn count_texts(reports: &[u8]) -> u64
+    requires { length reports.now < 2 ^ 30 }
+    ensures { result ≡ length (report_texts reports.now) }
+{
+    let mut rest = Rest::of(reports);
+    let mut count = 0;
+    while let Some(_) = rest.take_text() {
+        count += 1;
+    }
+    count
 }
 
 /// The length of the first line, with the line feed at its end if it has one.

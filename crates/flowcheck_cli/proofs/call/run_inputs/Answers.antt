@@ -1,11 +1,9 @@
 use Rattle.std.proofs.Common.{◌≡◌, ◌<◌, ◌^◌, ◌∙◌, Err, length, sym, ap, subst, inl, inr}
 use Rattle.flow_io.specs.Outside.{Rose}
 use Rattle.flowcheck_cli.specs.Checking.{BeginsRight}
-use Rattle.flowcheck_cli.specs.Inputs.{WhereSeen}
-use Rattle.flowcheck_cli.specs.Run.{WhereBothSeen, WhereWritten, Reads, Writes}
+use Rattle.program_runs.specs.Inputs.{WhereSeen}
 use Rattle.flow_io.proofs.Causes.{Rose-before}
 use Rattle.flowcheck_cli.proofs.Accounts.{reads-right, writes-right, reads-stopped, writes-stopped, begins_not_words, stop_not_words}
-use Rattle.flowcheck_cli.proofs.RunEnds.{stopped-fault}
 use Rattle.flowcheck_cli.proofs.call.run_inputs.Goals as goal
 
 pub check_input-requires-clause-may_ask : goal.check_input-requires-clause-may_ask
@@ -30,18 +28,13 @@ returns-in-Ok-clause-writes g c =
 
 pub returns-in-Err-clause-reads : goal.returns-in-Err-clause-reads
 returns-in-Err-clause-reads g c =
-    subst (λ status. WhereBothSeen (g.I.Inputs.holds c.args.inputs.now c.args.graph.now) (g.I.Inputs.holds c.args.inputs.now c.args.report.now) (g.I.Inputs.selected c.read_input.new.inputs)
-    (Reads (record { graph = c.args.graph.now; report = c.args.report.now }) status)) (sym c.status.ensures)
-    (reads-stopped (record { graph = c.args.graph.now; report = c.args.report.now }) c.in-Err.stop _ _ _ c.requires.differ c.read_input.ensures.first c.read_input.ensures.only
-    (λ is. c.read_input.ensures.long (c.in-Err.is ∙ ap Err is)))
+    reads-stopped (record { graph = c.args.graph.now; report = c.args.report.now }) c.in-Err.status _ _ _ c.in-Err.ensures.stopped c.requires.differ c.read_input.ensures.first c.read_input.ensures.only
+    (λ is. c.read_input.ensures.long (c.in-Err.is ∙ ap Err is))
 
 pub returns-in-Err-clause-writes : goal.returns-in-Err-clause-writes
 returns-in-Err-clause-writes g c =
-    subst (λ status. WhereBothSeen (g.I.Inputs.holds c.args.inputs.now c.args.graph.now) (g.I.Inputs.holds c.args.inputs.now c.args.report.now) (g.I.Inputs.selected c.read_input.new.inputs)
-    (λ seen. WhereWritten (g.O.Output.written c.args.out.now) (g.O.Output.written c.args.out.now)
-    (Writes (record { graph = c.args.graph.now; report = c.args.report.now }) status (Rose (g.O.Output.faults c.args.out.now) (g.O.Output.faults c.args.out.now)) seen))) (sym c.status.ensures)
-    (writes-stopped (record { graph = c.args.graph.now; report = c.args.report.now }) c.in-Err.stop _ _ _ _ _ c.requires.differ c.read_input.ensures.first c.read_input.ensures.only
-    (λ is. c.read_input.ensures.long (c.in-Err.is ∙ ap Err is)))
+    writes-stopped (record { graph = c.args.graph.now; report = c.args.report.now }) c.in-Err.status _ _ _ _ _ c.in-Err.ensures.stopped c.requires.differ c.read_input.ensures.first c.read_input.ensures.only
+    (λ is. c.read_input.ensures.long (c.in-Err.is ∙ ap Err is))
 
 pub returns-in-Ok-clause-not_words : goal.returns-in-Ok-clause-not_words
 returns-in-Ok-clause-not_words g c is = begins_not_words _ _ _ _ _ _ _ _ c.check_input.ensures.right is
@@ -53,7 +46,7 @@ returns-in-Ok-clause-fault g c faulty = elim (c.check_input.ensures.fault faulty
 ]
 
 pub returns-in-Err-clause-not_words : goal.returns-in-Err-clause-not_words
-returns-in-Err-clause-not_words g c is = stop_not_words c.in-Err.stop (sym c.status.ensures ∙ is)
+returns-in-Err-clause-not_words g c is = stop_not_words c.in-Err.status c.in-Err.ensures.stopped is
 
 pub returns-in-Err-clause-fault : goal.returns-in-Err-clause-fault
-returns-in-Err-clause-fault g c faulty = inl (c.read_input.ensures.fault (c.in-Err.is ∙ ap Err (stopped-fault c.in-Err.stop c.status.result c.status.ensures faulty)))
+returns-in-Err-clause-fault g c faulty = inl (c.read_input.ensures.fault (c.in-Err.is ∙ ap Err faulty))
