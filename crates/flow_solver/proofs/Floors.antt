@@ -5,7 +5,7 @@ use Rattle.std.proofs.lemmas.Bool.{cases_lt}
 use Rattle.decomposition.specs.declared.Decision.{Decision}
 use Rattle.decomposition.specs.declared.Mode.TheVariants.{Interval}
 use Rattle.decomposition.specs.declared.Token.{Token}
-use Rattle.decomposition.specs.Certificates.{IsBoundingTree, IsWithin, decision_below, decision_at_all}
+use Rattle.decomposition.specs.Certificates.{IsWithin, decision_below, decision_at_all}
 use Rattle.decomposition.specs.Graph.{edge_count}
 use Rattle.decomposition.specs.Instance.{Instance, IsInstance, IsLowerBound, Meets, error}
 use Rattle.decomposition.specs.Tokens.{IsRefutation}

@@ -5,7 +5,7 @@ use Rattle.std.proofs.lemmas.Bool.{and_from, cases_Bool, cases_lt}
 use Rattle.std.proofs.lemmas.List.{append-nil, get_or_past}
 use Rattle.std.proofs.lemmas.List.Sums.{sum_by-le}
 use Rattle.decomposition.specs.declared.Mode.TheVariants.{Abs}
-use Rattle.decomposition.specs.Answer.{Covers, HaveSamePaths, IsAnswer, IsInReportOrder, IsMerged, total_weight, weight_on}
+use Rattle.decomposition.specs.Answer.{Covers, HaveSamePaths, IsInReportOrder, IsMerged, total_weight, weight_on}
 use Rattle.decomposition.specs.FirstAnswer.{IsWidest, path_width}
 use Rattle.decomposition.specs.Flow.{rest_after}
 use Rattle.decomposition.specs.Graph.{Graph, IsPath, edge_count, has_edge, is_path}

@@ -1,6 +1,4 @@
 -- What settles a decision, with equal paths made one, is an answer to it.
-use Rattle.std.proofs.Common.{true, arith}
-use Rattle.decomposition.specs.Held.{Settles}
 use Rattle.flow_models.specs.Problem.{instance}
 use Rattle.flow_solver.proofs.Attempts.{settled_small, settled_found}
 use Rattle.flow_solver.proofs.checked.checked_answer.Goals as goal

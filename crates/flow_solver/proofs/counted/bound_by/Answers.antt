@@ -1,10 +1,5 @@
 -- A refutation shows one more than it refutes, and an antichain the width.
-use Rattle.std.proofs.Common.{None, Some, length, sym, subst}
-use Rattle.decomposition.specs.declared.Mode.TheVariants.{Interval}
-use Rattle.path_report.specs.declared.report.Cert.TheVariants.{Tree}
-use Rattle.flow_solver.specs.Right.{IsCertFor}
-use Rattle.flow_solver.specs.Searched.{IsRaisedWithin, floor_of}
-use Rattle.flow_solver.proofs.Floors.{none_shown, raised_shown}
+use Rattle.flow_solver.proofs.Floors.{none_shown}
 use Rattle.flow_solver.proofs.counted.bound_by.Goals as goal
 
 pub returns-in-None-clause-shows : goal.returns-in-None-clause-shows

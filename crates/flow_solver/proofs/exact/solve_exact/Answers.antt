@@ -1,5 +1,5 @@
 -- The flow is the list of the lower bounds, which are the weights of the instance.
-use Rattle.std.proofs.Common.{◌≤◌, ℕ, List, slice_index, sym, subst, ◌∙◌, arith}
+use Rattle.std.proofs.Common.{◌≤◌, ℕ, List, slice_index, sym, subst, ◌∙◌}
 use Rattle.std.specs.Prelude.{All, IfSome}
 use Rattle.decomposition.specs.declared.Mode.TheVariants.{Exact}
 use Rattle.decomposition.specs.Flow.{IsBalanced}
@@ -7,7 +7,7 @@ use Rattle.decomposition.specs.SafeRuns.{AreMaximal, IsSafeFor}
 use Rattle.flow_models.specs.Problem.{instance}
 use Rattle.greedy_paths.proofs.OneList.{booked_paths_are_one_list}
 use Rattle.flow_solver.specs.Right.{CountsPaths}
-use Rattle.flow_solver.specs.Searched.{FindsAs, IsSolvedBy}
+use Rattle.flow_solver.specs.Searched.{IsSolvedBy}
 use Rattle.cert_check.proofs.Lows.{lows_balanced}
 use Rattle.flow_solver.proofs.Beginnings.{exact_beginning_of}
 use Rattle.flow_solver.proofs.Bounded.{lows_small}

@@ -1,10 +1,10 @@
 -- A cut, or what the searches found from a first answer.
-use Rattle.std.proofs.Common.{sym, subst, arith}
+use Rattle.std.proofs.Common.{sym, subst}
 use Rattle.decomposition.specs.declared.Mode.TheVariants.{Interval}
 use Rattle.flow_models.specs.Problem.{instance}
 use Rattle.flow_solver.specs.Firsts.{IsWithin}
 use Rattle.flow_solver.specs.Right.{CountsPaths, SolvedRight}
-use Rattle.flow_solver.specs.Searched.{FindsAs, IsSolvedBy}
+use Rattle.flow_solver.specs.Searched.{IsSolvedBy}
 use Rattle.flow_solver.proofs.Facts.{not_safe, solved_facts}
 use Rattle.flow_solver.proofs.Solved.{right_by_cut}
 use Rattle.flow_solver.proofs.Widths.{rising_edges}

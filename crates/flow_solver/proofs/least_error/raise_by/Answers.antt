@@ -1,5 +1,5 @@
 -- A refutation within the bounds raises the lower one.
-use Rattle.std.proofs.Common.{Some, ap, sym, subst, arith}
+use Rattle.std.proofs.Common.{subst, arith}
 use Rattle.std.specs.Prelude.{IfSome}
 use Rattle.flow_solver.specs.Searched.{IsRefutedAlone}
 use Rattle.flow_solver.proofs.Halving.{between_raised}

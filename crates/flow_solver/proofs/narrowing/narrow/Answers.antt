@@ -1,5 +1,5 @@
 -- An answer of few enough paths without error is known.
-use Rattle.std.proofs.Common.{◌+◌, ◌-◌, Some, refl, subst}
+use Rattle.std.proofs.Common.{◌-◌, Some, refl, subst}
 use Rattle.std.specs.Prelude.{IfSome}
 use Rattle.decomposition.specs.declared.Decision.{Decision}
 use Rattle.flow_models.specs.Problem.{instance}
