@@ -44,7 +44,7 @@ const FOUR_APART: [&str; 2] = [
 const OVER: &str = "# over\n#S m c\n#S m d\n5\np m 1\nq m 1\nm c 1\nm d 1\n";
 
 /// The runs.
-pub const FREE: [Free; 11] = [
+pub const FREE: [Free; 13] = [
     Free {
         words: &[],
         input: "# two\n4\ns a 3\ns b 2\na t 3\nb t 2\n",
@@ -76,6 +76,16 @@ pub const FREE: [Free; 11] = [
         choices: &[""],
         forms: &TWO_SLOTS,
         rest: "safe 3\nrun s a m c t\nrun s a m d t\nrun s b m\nend\n",
+    },
+    // The rule list refutes two paths in 49 tokens: a shorter refutation is found where it is spent.
+    Free {
+        words: &["--nodes", "48"],
+        input: DIAMONDS,
+        status: Status::Clean,
+        begin: THREE_PATHS,
+        choices: &[""],
+        forms: &TWO_SLOTS,
+        rest: "end\n",
     },
     Free {
         words: &["--nodes", "1"],
@@ -109,6 +119,20 @@ pub const FREE: [Free; 11] = [
     },
     Free {
         words: &["--model", "abs", "--paths", "1"],
+        input: UNEQUAL,
+        status: Status::Clean,
+        begin: "graph 1 x\nmodel abs 1\nmark optimal\nlower 2\nupper 2\npath ",
+        choices: &[
+            "3 s a t\ncert tree 1 1 ",
+            "4 s a t\ncert tree 1 1 ",
+            "5 s a t\ncert tree 1 1 ",
+        ],
+        forms: &["gap", "split 1", "step 1"],
+        rest: "end\n",
+    },
+    // The rule list refutes an error of 1 in 9 tokens.
+    Free {
+        words: &["--model", "abs", "--paths", "1", "--nodes", "8"],
         input: UNEQUAL,
         status: Status::Clean,
         begin: "graph 1 x\nmodel abs 1\nmark optimal\nlower 2\nupper 2\npath ",
