@@ -1,5 +1,5 @@
 -- From what a run took and wrote to what is said of it where the inputs and the output tell.
-use Rattle.std.proofs.Common.{◌≡◌, ◌≤◌, ◌<◌, ◌^◌, ℕ, List, [], ◌++◌, length, Option, Some, None, refl, sym, ap, subst, ◌∙◌, arith, inl, inr}
+use Rattle.std.proofs.Common.{◌≡◌, ◌<◌, ◌^◌, ℕ, List, [], ◌++◌, length, Option, Some, None, refl, sym, ap, subst, ◌∙◌, arith, inl, inr}
 use Rattle.std.specs.Prelude.{is_some}
 use Rattle.std.proofs.lemmas.List.{append_cancel_left}
 use Rattle.flow_io.specs.Outside.{Selected, Starts, Unselected}
@@ -9,14 +9,13 @@ use Rattle.flow_io.specs.declared.status.Status.TheVariants.{Clean, Partial, Ref
 use Rattle.graph_text.specs.Blocks.{TextBlock, blocks, complete}
 use Rattle.program_runs.specs.HandedBlocks.{blocks_at}
 use Rattle.program_runs.specs.Inputs.{IsAtEnd}
-use Rattle.block_runs.specs.Texts.{Wrote, IsFirst, Begins, BeginsWhole, BeginsEnd, BeginsAt}
+use Rattle.block_runs.specs.Texts.{Wrote, IsFirst, Begins, BeginsEnd, BeginsAt}
 use Rattle.block_runs.specs.Underway.{EndsRight}
-use Rattle.block_runs.specs.Run.{Seen, WhereSeen, WhereWritten, taken, left_of, Reads, Writes}
-use Rattle.program_runs.proofs.FirstBlocks.{first-at, first-all}
+use Rattle.block_runs.specs.Run.{WhereSeen, WhereWritten, taken, left_of, Reads, Writes}
+use Rattle.program_runs.proofs.FirstBlocks.{first-at}
 use Rattle.program_runs.proofs.HandedBlocks.{blocks-seen}
 use Rattle.program_runs.proofs.Inputs.{seen_at, left-at, taken-at, takes-first_at, where_took, where_none}
 use Rattle.program_runs.proofs.Writing.{where_written}
-use Rattle.block_runs.proofs.Texts.{begins-all}
 
 -- what was read
 pub reads-right : (right : List TextBlock → List ℕ → Type 0) (whole : Status → List TextBlock → List ℕ → Type 0) (file : List ℕ) (status : Status) (held : Option (List ℕ)) (first last : Option (Option Selected)) (before now : Option (List ℕ)) (rose : Type 0) →

@@ -1,5 +1,5 @@
 -- A text of few bytes has few blocks.
-use Rattle.std.proofs.Common.{◌≡◌, ◌≤◌, ◌<◌, ◌^◌, ◌+◌, ◌*◌, ℕ, List, [], ◌∷◌, ◌++◌, Bool, true, false, not, ◌&&◌, ◌||◌, ◌==◌, length, take, drop, if◌then◌else◌, sym, ap, subst, ◌∙◌, arith, append-nil, length-append, length-drop}
+use Rattle.std.proofs.Common.{◌≤◌, ◌<◌, ◌^◌, ◌+◌, ◌*◌, ℕ, List, [], ◌∷◌, ◌++◌, Bool, true, false, not, ◌&&◌, ◌||◌, ◌==◌, length, take, drop, if◌then◌else◌, sym, ap, subst, arith, append-nil, length-append, length-drop}
 use Rattle.std.proofs.lemmas.List.{length-map}
 use Rattle.graph_text.specs.Lines.{onto_first, spelled_lines, without_return, lines_of, is_hash_line, is_content_line}
 use Rattle.graph_text.specs.Blocks.{join_first, groups, groups_of, all_but_last, lead, complete, blocks}

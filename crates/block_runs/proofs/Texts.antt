@@ -1,12 +1,12 @@
 -- Texts that grow by a piece.
-use Rattle.std.proofs.Common.{◌≡◌, ℕ, List, [], ◌∷◌, ◌++◌, Option, Some, None, refl, sym, subst, ◌∙◌, append_assoc, append-nil, inl, inr}
+use Rattle.std.proofs.Common.{◌≡◌, ℕ, List, [], ◌++◌, Option, Some, None, sym, subst, append_assoc, append-nil, inl, inr}
 use Rattle.decomposition.specs.declared.Mode.{Mode}
 use Rattle.flow_io.specs.Outside.{Adds}
 use Rattle.flow_io.specs.declared.status.Status.{Status}
 use Rattle.flow_io.proofs.Adding.{Adds-nothing, Adds-then}
 use Rattle.graph_text.specs.Blocks.{TextBlock, complete}
 use Rattle.graph_text.specs.declared.block.Block.{Block}
-use Rattle.program_runs.specs.HandedBlocks.{IsHandedFor, AreHandedFor}
+use Rattle.program_runs.specs.HandedBlocks.{AreHandedFor}
 use Rattle.block_runs.specs.Texts.{Wrote, IsFirst, Begins, BeginsWhole, BeginsEnd}
 use Rattle.block_runs.specs.Answering.{Answers, IsCutOff, Finishes, IsCutAtEnd, AnswersWaiting, IsCutWaiting}
 use Rattle.program_runs.proofs.FirstBlocks.{first-all, first-goes_on}

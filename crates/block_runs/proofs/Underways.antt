@@ -2,7 +2,7 @@
 use Rattle.std.proofs.Common.{◌≡◌, ◌+◌, ◌-◌, ℕ, List, [], ◌++◌, length, take, drop, Option, false, sym, subst, ◌∙◌, append-nil}
 use Rattle.decomposition.specs.declared.Mode.{Mode}
 use Rattle.graph_text.specs.Blocks.{TextBlock, blocks, complete}
-use Rattle.graph_text.specs.Reader.{StandsFor, Feeds, Ends, IsTaken, IsNew, mode_of, waiting_of, has_failed, has_finished}
+use Rattle.graph_text.specs.Reader.{Feeds, Ends, IsTaken, IsNew, mode_of, waiting_of, has_failed, has_finished}
 use Rattle.graph_text.specs.declared.reader.BlockReader.{BlockReader}
 use Rattle.graph_text.proofs.Growing.{blocks-begin}
 use Rattle.flow_io.proofs.Adding.{Adds-nothing}

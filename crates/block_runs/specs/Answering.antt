@@ -1,6 +1,6 @@
 -- What the calls of a worker write. `old first shown text` says that from the state `first`, which had answered nothing, to the state before the
 -- call these blocks were answered by this text; `new` says so of the state after it.
-use Rattle.std.specs.Prelude.{◌≡◌, ◌<◌, ◌^◌, ℕ, List, [], ◌∷◌, ◌++◌, length, Option}
+use Rattle.std.specs.Prelude.{◌<◌, ◌^◌, ℕ, List, [], ◌∷◌, ◌++◌, length, Option}
 use Rattle.decomposition.specs.declared.Mode.{Mode}
 use Rattle.flow_io.specs.Outside.{Adds}
 use Rattle.flow_io.specs.declared.status.Status.{Status}

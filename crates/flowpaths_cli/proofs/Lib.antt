@@ -1,8 +1,5 @@
 pub mod Reports
 pub mod Handed
-pub mod Waiting
-pub mod Underways
-pub mod Inputs
 pub mod Accounts
 pub mod Bounded
 pub mod Widths
@@ -27,7 +24,6 @@ pub mod OnWords
 pub mod WordSettings
 pub mod SafeLists
 pub mod Tallies
-pub mod Countings
 pub mod SolvedGraphs
 pub mod GeneratedRuns
 pub mod Acceptance

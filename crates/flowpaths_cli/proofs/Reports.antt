@@ -1,8 +1,11 @@
 -- Outputs that grow by one report after another.
 use Rattle.std.proofs.Common.{◌≡◌, ℕ, List, [], ◌∷◌, ◌++◌, take, drop, Option, IsTrue, refl, sym, ◌∙◌, ap, subst, append_assoc, append-nil}
-use Rattle.flow_io.specs.Outside.{Adds, AddsPrefix}
+use Rattle.std.specs.List.{list_any}
+use Rattle.std.proofs.lemmas.List.{take-append-drop}
+use Rattle.flow_io.specs.Outside.{AddsPrefix}
 use Rattle.flow_io.specs.declared.status.Status.{Status}
-use Rattle.flow_io.proofs.Adding.{Adds-nothing, Adds-then}
+use Rattle.flow_io.specs.declared.status.Status.TheVariants.{Clean}
+use Rattle.flow_io.proofs.Adding.{Adds-nothing}
 use Rattle.graph_text.specs.Blocks.{TextBlock}
 use Rattle.graph_text.specs.Labels.{LabelLists}
 use Rattle.graph_text.specs.Reader.{handed}
@@ -10,12 +13,14 @@ use Rattle.graph_text.specs.declared.block.Block.{Block}
 use Rattle.path_report.specs.ReportText.{is_regular, text_of}
 use Rattle.path_report.specs.declared.report.Body.{Body}
 use Rattle.path_report.specs.declared.report.Report.{Report}
-use Rattle.program_runs.proofs.FirstBlocks.{first-more, first-all}
-use Rattle.program_runs.proofs.Parts.{parts-joined}
+use Rattle.program_runs.specs.HandedBlocks.{IsHandedFor}
+use Rattle.program_runs.proofs.Statuses.{done-by}
+use Rattle.block_runs.specs.Answering.{IsRightAndMayBeCut, IsCutOff, Finishes}
+use Rattle.flowpaths_cli.specs.declared.reporting.Reporting.{Reporting}
 use Rattle.flowpaths_cli.specs.declared.settings.Settings.{Settings}
-use Rattle.flowpaths_cli.specs.Right.{BodyRight, labels_of, IsTextOf, IsReportOf, status_of}
-use Rattle.flowpaths_cli.specs.Run.{AreReports, IsOutput, IsFirstOutput}
-use Rattle.flowpaths_cli.specs.Reporting.{Wrote, WroteFirst, WroteBeginning}
+use Rattle.flowpaths_cli.specs.Right.{AreBuilt, BodyRight, labels_of, IsTextOf, IsReportOf, status_of, is_refused, is_open}
+use Rattle.flowpaths_cli.specs.Run.{IsDone, AreReports, IsOutput, IsOutputWith}
+use Rattle.flowpaths_cli.specs.Reporting.{HasReported}
 
 -- the report that is made of a block and of what is said of it
 abbrev pub report_on : Settings → Block → Body → Report
@@ -49,42 +54,49 @@ reports-more s (first ∷ blocks) [] text block report more h one = absurd h
 reports-more s (first ∷ blocks) (other ∷ reports) text block report more h one =
     (h.0, h.1 ++ more, ap (λ t. t ++ more) h.2 ∙ append_assoc h.0 h.1 more, h.3, reports-more s blocks reports h.1 block report more h.4 one)
 
--- nothing was written yet
-pub Wrote-nothing : (s : Settings) (told : Option (List ℕ)) → Wrote s [] (status_of []) told told
-Wrote-nothing s told = ([], ([], refl, refl), Adds-nothing told)
+-- no report yet
+pub reported-nothing : (first : Reporting) → AreBuilt first.settings.now → first.status ≡ Clean → HasReported first first [] []
+reported-nothing first built clean = record { built = built; settings_are = refl; output = ([], refl, clean) }
 
--- one report more
-pub Wrote-more : (s : Settings) (shown : List TextBlock) (status after : Status) (before old new : Option (List ℕ)) (block : TextBlock) (report : Report) (piece : List ℕ) →
-    Wrote s shown status before old → IsReportOf s block report piece → Adds old new piece →
-    ((reports : List Report) → status ≡ status_of reports → after ≡ status_of (reports ++ report ∷ [])) →
-    Wrote s (shown ++ block ∷ []) after before new
-Wrote-more s shown status after before old new block report piece wrote is_report adds then_status =
-    let text = wrote.0 in
-    let reports = wrote.1.0 in (
-      text ++ piece,
-      (reports ++ report ∷ [], reports-more s shown reports text block report piece wrote.1.1 is_report, then_status reports wrote.1.2),
-      Adds-then before old new text piece wrote.2 adds,
-    )
+-- one report more, under the settings of the first state
+reports-then : (first now : Reporting) (shown : List TextBlock) (text : List ℕ) (block : TextBlock) (report : Report) (piece : List ℕ) → (h : HasReported first now shown text) →
+    IsReportOf now.settings.now block report piece → AreReports first.settings.now (shown ++ block ∷ []) (h.output.0 ++ report ∷ []) (text ++ piece)
+reports-then first now shown text block report piece h one =
+    reports-more first.settings.now shown h.output.0 text block report piece h.output.1 (subst (λ s. IsReportOf s block report piece) h.settings_are one)
 
--- what was written is an output for the first ones of more blocks
-pub Wrote-first : (s : Settings) (shown others : List TextBlock) (status : Status) (before now : Option (List ℕ)) →
-    Wrote s shown status before now → WroteFirst s (shown ++ others) before now
-Wrote-first s shown others status before now wrote =
-    (wrote.0, first-more (λ l. IsOutput s l wrote.0) shown others (wrote.1.0, wrote.1.1), wrote.2)
+pub reported-more : (first now : Reporting) (after : Status) (shown : List TextBlock) (text : List ℕ) (block : TextBlock) (report : Report) (piece : List ℕ) → HasReported first now shown text →
+    IsReportOf now.settings.now block report piece → ((reports : List Report) → now.status ≡ status_of reports → after ≡ status_of (reports ++ report ∷ [])) →
+    HasReported first (record { settings = now.settings; status = after }) (shown ++ block ∷ []) (text ++ piece)
+reported-more first now after shown text block report piece h one then_status = record {
+  built = h.built;
+  settings_are = h.settings_are;
+  output = (h.output.0 ++ report ∷ [], reports-then first now shown text block report piece h one, then_status h.output.0 h.output.2);
+}
 
 -- a report that is cut off
-pub Wrote-cut : (s : Settings) (shown : List TextBlock) (status : Status) (before old new : Option (List ℕ)) (block : TextBlock) (report : Report) (piece : List ℕ) →
-    Wrote s shown status before old → IsReportOf s block report piece → AddsPrefix old new piece → WroteBeginning s (shown ++ block ∷ []) before new
-Wrote-cut s shown status before old new block report piece wrote is_report adds =
-    let text = wrote.0 in
-    let n = adds.0 in
-    let whole : AreReports s (shown ++ block ∷ []) (wrote.1.0 ++ report ∷ []) (text ++ piece) =
-    reports-more s shown wrote.1.0 text block report piece wrote.1.1 is_report in
-    let reports : IsOutput s (shown ++ block ∷ []) ((text ++ take n piece) ++ drop n piece) =
-    (wrote.1.0 ++ report ∷ [], subst (λ t. AreReports s (shown ++ block ∷ []) (wrote.1.0 ++ report ∷ []) t) (parts-joined text piece n) whole) in
-    let firsts : IsFirstOutput s (shown ++ block ∷ []) ((text ++ take n piece) ++ drop n piece) =
-    first-all (λ l. IsOutput s l ((text ++ take n piece) ++ drop n piece)) (shown ++ block ∷ []) reports in (
-      text ++ take n piece,
-      (drop n piece, firsts),
-      Adds-then before old new text (take n piece) wrote.2 adds.2,
-    )
+pub reported-cut : (now : Reporting) (block : Block) (report : Report) (piece : List ℕ) (before after : Option (List ℕ)) →
+    ((asked : TextBlock) → IsHandedFor now.settings.now.mode asked block → IsReportOf now.settings.now asked report piece) → AddsPrefix before after piece →
+    IsCutOff {W = Reporting} now.settings.now.mode block (λ first shown text. HasReported first now shown text)
+    (IsRightAndMayBeCut {W = Reporting} (λ _. Unit {0}) (λ w. IsOutput w.settings.now)) before after
+reported-cut now block report piece before after is adds = (
+  take adds.0 piece,
+  drop adds.0 piece,
+  adds.2,
+  λ asked handed first shown text h. (
+    tt,
+    (
+      h.output.0 ++ report ∷ [],
+      subst (λ p. AreReports first.settings.now (shown ++ asked ∷ []) (h.output.0 ++ report ∷ []) (text ++ p)) (sym (take-append-drop adds.0 piece))
+          (reports-then first now shown text asked report piece h (is asked handed)),
+    ),
+  ),
+)
+
+-- the reports are all, and their status is that of a run that came to its end
+pub reported-done : (first now : Reporting) (shown : List TextBlock) (text : List ℕ) → HasReported first now shown text → IsDone now.status
+reported-done first now shown text h =
+    subst IsDone (sym h.output.2) (done-by (list_any (λ r. is_refused r.body) h.output.0) (list_any (λ r. is_open r.body) h.output.0))
+
+pub reported-all : (now : Reporting) (told : Option (List ℕ)) →
+    Finishes {W = Reporting} (λ first shown text. HasReported first now shown text) (λ first. IsOutputWith first.settings.now now.status) told told
+reported-all now told = ([], Adds-nothing told, λ first shown text h. subst (IsOutputWith first.settings.now now.status shown) (sym (append-nil text)) h.output)

@@ -1,28 +1,32 @@
 -- Counts of right reports.
-use Rattle.std.proofs.Common.{◌≡◌, ◌≤◌, ◌+◌, ℕ, suc, List, [], ◌∷◌, ◌++◌, length, Option, Some, None, Result, Ok, Err, refl, sym, ap, subst, ◌∙◌, arith, length-append, append-nil}
+use Rattle.std.proofs.Common.{◌≡◌, ◌≤◌, ◌<◌, ◌+◌, ℕ, zero, suc, List, [], ◌∷◌, ◌++◌, length, take, drop, Option, Some, None, Result, Ok, Err, refl, sym, ap, subst, ◌∙◌, arith, length-append, append-nil}
 use Rattle.std.specs.Prelude.{IfOk, unwrap_or}
 use Rattle.std.proofs.lemmas.List.Sums.{count_by-le-length, sum_by_push}
+use Rattle.std.proofs.lemmas.List.{take-append-drop}
+use Rattle.block_runs.specs.Answering.{Finishes, IsCutAtEnd}
 use Rattle.decomposition.specs.declared.Mode.{Mode}
 use Rattle.decomposition.specs.declared.Mode.TheVariants.{Exact}
 use Rattle.decomposition.specs.Graph.{edge_count}
 use Rattle.decomposition.specs.Instance.{Instance, objective}
+use Rattle.flow_io.specs.Outside.{Adds, AddsPrefix}
+use Rattle.flow_io.specs.declared.status.Status.{Status}
+use Rattle.flow_io.specs.declared.status.Status.TheVariants.{Clean, Partial}
 use Rattle.graph_text.specs.Accepted.{IsAccepted}
 use Rattle.graph_text.specs.Blocks.{TextBlock}
 use Rattle.graph_text.specs.Reading.{instance_of}
-use Rattle.graph_text.specs.declared.block.Block.{Block}
 use Rattle.graph_text.specs.declared.block.RawGraph.{RawGraph}
 use Rattle.graph_text.specs.declared.refusal.Refusal.{Refusal}
 use Rattle.path_report.specs.declared.report.Report.{Report}
 use Rattle.path_report.specs.declared.report.Body.{Body}
 use Rattle.path_report.specs.declared.report.Body.TheVariants.{Refused, Solved as SolvedBody}
+use Rattle.flowpaths_cli.specs.declared.generated.Counting.{Counting}
 use Rattle.flowpaths_cli.specs.declared.settings.Settings.{Settings}
 use Rattle.flowpaths_cli.specs.declared.tally.Tally.{Tally}
-use Rattle.flowpaths_cli.specs.Generated.{IsTallied, AreTallied}
+use Rattle.flowpaths_cli.specs.Generated.{IsTallied, AreTallied, HasCounted, IsToldWith}
 use Rattle.flowpaths_cli.specs.Marks.{is_best, paths_of}
-use Rattle.flowpaths_cli.specs.Reporting.{IsHandedFor, AreHandedFor}
-use Rattle.flowpaths_cli.specs.Right.{BodyRight, ArePathsFor, AreFew, IsReportOf, is_open}
+use Rattle.flowpaths_cli.specs.Right.{AreBuilt, BodyRight, ArePathsFor, AreFew, IsReportOf, is_open}
 use Rattle.flowpaths_cli.specs.Run.{AreReports}
-use Rattle.flowpaths_cli.specs.Tally.{tally_of, IsWithin}
+use Rattle.flowpaths_cli.specs.Tally.{tally_of, lines_of, IsWithin}
 use Rattle.flowpaths_cli.proofs.Reports.{reports-more}
 
 -- one report for each block
@@ -61,7 +65,7 @@ paths-few s (Ok graph) (SolvedBody solved) exact valid right =
     few-upper s.mode (instance_of graph) solved.upper solved.paths exact right.paths right.few valid.few_edges valid.few_runs
 
 -- one report more
-pub tallied-more : (s : Settings) (shown : List TextBlock) (old new : Tally) (block : TextBlock) (report : Report) (piece : List ℕ) → IsTallied s shown old →
+tallied-more : (s : Settings) (shown : List TextBlock) (old new : Tally) (block : TextBlock) (report : Report) (piece : List ℕ) → IsTallied s shown old →
     IsReportOf s block report piece → paths_of report.body ≤ 1024 → ((reports : List Report) → old ≡ tally_of reports → new ≡ tally_of (reports ++ report ∷ [])) →
     IsTallied s (shown ++ block ∷ []) new
 tallied-more s shown old new block report piece is one small counted =
@@ -82,17 +86,56 @@ tallied-more s shown old new block report piece is one small counted =
       );
     }
 
--- what is said of the one block that waits is said of the list of those that wait
-pub waiting-tallied : (s : Settings) (told : Option Block) (block : Block) (old new : Tally) → told ≡ Some block →
-    ((text : TextBlock) → IsHandedFor s.mode text block → (shown : List TextBlock) → IsTallied s shown old → IsTallied s (shown ++ text ∷ []) new) →
-    (waiting : List TextBlock) → AreHandedFor s.mode waiting told → (shown : List TextBlock) → IsTallied s shown old → IsTallied s (shown ++ waiting) new
-waiting-tallied s told block old new is done waiting handed shown before =
-    let one : (text : TextBlock) × (waiting ≡ text ∷ []) × IsHandedFor s.mode text block = subst (AreHandedFor s.mode waiting) is handed in
-    subst (λ w. IsTallied s (shown ++ w) new) (sym one.1) (done one.0 one.2 shown before)
+pub counted-more : (first now : Counting) (new : Tally) (shown : List TextBlock) (text : List ℕ) (block : TextBlock) (report : Report) (piece : List ℕ) → HasCounted first now shown text →
+    IsReportOf now.settings.now block report piece → paths_of report.body ≤ 1024 → ((reports : List Report) → now.tally ≡ tally_of reports → new ≡ tally_of (reports ++ report ∷ [])) →
+    HasCounted first (record { settings = now.settings; tally = new }) (shown ++ block ∷ []) (text ++ [])
+counted-more first now new shown text block report piece h one small counted = record {
+  built = h.built;
+  exact = h.exact;
+  settings_are = h.settings_are;
+  tallied = tallied-more first.settings.now shown now.tally new block report piece h.tallied (subst (λ s. IsReportOf s block report piece) h.settings_are one) small counted;
+  nothing = append-nil text ∙ h.nothing;
+}
 
--- where no block waits, nothing is counted
-pub none-tallied : (s : Settings) (told : Option Block) (waiting shown : List TextBlock) (t : Tally) → told ≡ None → AreHandedFor s.mode waiting told →
-    IsTallied s shown t → IsTallied s (shown ++ waiting) t
-none-tallied s told waiting shown t is handed tallied =
-    let none : waiting ≡ [] = subst (AreHandedFor s.mode waiting) is handed in
-    subst (λ l. IsTallied s l t) (sym (ap (λ w. shown ++ w) none ∙ append-nil shown)) tallied
+-- nothing is counted yet
+pub counted-nothing : (first : Counting) → AreBuilt first.settings.now → first.settings.now.mode ≡ Exact → first.tally ≡ tally_of [] → HasCounted first first [] []
+counted-nothing first built exact none = record {
+  built = built;
+  exact = exact;
+  settings_are = refl;
+  tallied = record { reports = []; text = []; right = refl; counts = none; few = omega (arith, ap (λ (u : Tally). u.paths) none) };
+  nothing = refl;
+}
+
+-- all graphs are counted, and the lines are written, or a beginning of them
+told-with : (first now : Counting) (shown : List TextBlock) (text lines : List ℕ) (status : Status) → HasCounted first now shown text → lines ≡ lines_of now.tally →
+    (now.tally.bounds ≡ 0 → status ≡ Clean) → (0 < now.tally.bounds → status ≡ Partial) → IsToldWith first.settings.now status shown (text ++ lines)
+told-with first now shown text lines status h are clean partial = record {
+  tally = now.tally;
+  tallied = h.tallied;
+  lines = ap (λ t. t ++ lines) h.nothing ∙ are;
+  clean = clean;
+  partial = partial;
+}
+
+pub told-all : (now : Counting) (lines : List ℕ) (status : Status) (before after : Option (List ℕ)) → lines ≡ lines_of now.tally →
+    (now.tally.bounds ≡ 0 → status ≡ Clean) → (0 < now.tally.bounds → status ≡ Partial) → Adds before after lines →
+    Finishes {W = Counting} (λ first shown text. HasCounted first now shown text) (λ first shown text. IsToldWith first.settings.now status shown text) before after
+told-all now lines status before after are clean partial adds = (lines, adds, λ first shown text h. told-with first now shown text lines status h are clean partial)
+
+told-status : (bounds : ℕ) → (status : Status) × (bounds ≡ 0 → status ≡ Clean) × (0 < bounds → status ≡ Partial)
+told-status zero = (Clean, λ e. refl, λ some. absurd (omega (arith, some)))
+told-status (suc n) = (Partial, λ e. absurd (omega (arith, e)), λ some. refl)
+
+pub told-cut : (now : Counting) (lines : List ℕ) (before after : Option (List ℕ)) → lines ≡ lines_of now.tally → AddsPrefix before after lines →
+    IsCutAtEnd {W = Counting} (λ first shown text. HasCounted first now shown text) (λ first status shown text. IsToldWith first.settings.now status shown text) before after
+told-cut now lines before after are adds =
+    let told = told-status now.tally.bounds in (
+      take adds.0 lines,
+      drop adds.0 lines,
+      told.0,
+      adds.2,
+      λ first shown text h.
+          subst (λ l. IsToldWith first.settings.now told.0 shown (text ++ l)) (sym (take-append-drop adds.0 lines))
+          (told-with first now shown text lines told.0 h are told.1 told.2),
+    )

@@ -1,17 +1,18 @@
 -- What a run over a generated text writes.
-use Rattle.std.specs.Prelude.{◌≡◌, ℕ, ◌+◌, ◌*◌, ◌^◌, ◌<◌, ◌≤◌, false, List, [], ◌∷◌, ◌++◌, length, sum, None, IsOkAnd}
+use Rattle.std.specs.Prelude.{◌≡◌, ℕ, ◌+◌, ◌*◌, ◌^◌, ◌<◌, ◌≤◌, List, [], ◌∷◌, ◌++◌, length, sum, IsOkAnd}
+use Rattle.std.proofs.Common.{ap}
 use Rattle.decomposition.specs.declared.Mode.TheVariants.{Exact}
 use Rattle.decomposition.specs.Instance.{Instance, Meets, objective, IsLowerBound}
 use Rattle.demo_text.specs.Demo.{demo_text}
 use Rattle.flow_io.specs.declared.status.Status.{Status}
 use Rattle.flow_io.specs.declared.status.Status.TheVariants.{Clean, Partial, Refused, Words, Fault, Memory, Long}
-use Rattle.graph_text.specs.Blocks.{TextBlock, blocks, complete}
-use Rattle.graph_text.specs.Reader.{StandsFor, mode_of, waiting_of, has_failed, has_finished}
+use Rattle.graph_text.specs.Blocks.{TextBlock, blocks}
 use Rattle.graph_text.specs.Reading.{read, instance_of}
-use Rattle.graph_text.specs.declared.reader.BlockReader.{BlockReader}
 use Rattle.path_report.specs.declared.report.Report.{Report}
+use Rattle.flowpaths_cli.specs.declared.generated.Counting.{Counting}
 use Rattle.flowpaths_cli.specs.declared.settings.Settings.{Settings}
 use Rattle.flowpaths_cli.specs.declared.tally.Tally.{Tally}
+use Rattle.flowpaths_cli.specs.Right.{AreBuilt}
 use Rattle.flowpaths_cli.specs.Run.{AreReports}
 use Rattle.flowpaths_cli.specs.Tally.{tally_of, lines_of}
 
@@ -23,22 +24,28 @@ pub record IsTallied (s : Settings) (shown : List TextBlock) (t : Tally) : Type 
   pub counts : t ≡ tally_of reports
   pub few : t.paths ≤ 1024 * length reports
 
--- Between two parts of a text: the reader stands for the bytes taken, and each complete block is counted.
-pub record Counting (s : Settings) (reader : BlockReader) (bytes : List ℕ) (t : Tally) : Type 0 where
-  pub stands : StandsFor reader bytes
-  pub none_waits : waiting_of reader ≡ None
-  pub works : has_failed reader ≡ false
-  pub goes_on : has_finished reader ≡ false
-  pub mode_is : mode_of reader ≡ s.mode
-  pub tallied : IsTallied s (complete bytes) t
-
 -- the counts are those of right reports for fewer than 2^32 blocks
 abbrev pub AreTallied : Settings → Tally → Type 0
 AreTallied s t = (shown : List TextBlock) × (length shown < 2 ^ 32) × IsTallied s shown t
 
--- the run is between two parts, with fewer than 2^32 complete blocks
-abbrev pub IsCounting : Settings → BlockReader → Tally → Type 0
-IsCounting s reader t = (bytes : List ℕ) × (length (complete bytes) < 2 ^ 32) × Counting s reader bytes t
+-- from the first state to the second these blocks were counted in the exact model, and nothing was written
+pub record HasCounted (first now : Counting) (shown : List TextBlock) (text : List ℕ) : Type 0 where
+  pub built : AreBuilt first.settings.now
+  pub exact : first.settings.now.mode ≡ Exact
+  pub settings_are : now.settings.now ≡ first.settings.now
+  pub tallied : IsTallied first.settings.now shown now.tally
+  pub nothing : text ≡ []
+
+pub model_stays : (first now : Counting) (shown : List TextBlock) (text : List ℕ) → HasCounted first now shown text → now.settings.now.mode ≡ first.settings.now.mode
+model_stays first now shown text h = ap (λ (s : Settings). s.mode) h.settings_are
+
+-- the text is the lines of the counts of right reports for these blocks, and the status says whether an optimum is left open
+pub record IsToldWith (s : Settings) (status : Status) (shown : List TextBlock) (text : List ℕ) : Type 0 where
+  pub tally : Tally
+  pub tallied : IsTallied s shown tally
+  pub lines : text ≡ lines_of tally
+  pub clean : tally.bounds ≡ 0 → status ≡ Clean
+  pub partial : 0 < tally.bounds → status ≡ Partial
 
 -- the fewest paths that make up the flow of an instance: some answer has so many, and none has fewer
 pub record IsFewest (i : Instance) (n : ℕ) : Type 0 where

@@ -2,7 +2,10 @@
 pub use Rattle.program_runs.specs.Inputs.{Seen, WhereSeen, left_of, bytes_without, taken, TakesFirst, IsDone}
 pub use Rattle.program_runs.specs.Writing.{WhereWritten, Notes}
 pub use Rattle.program_runs.specs.HandedBlocks.{blocks_at}
-use Rattle.std.specs.Prelude.{◌≡◌, ℕ, ◌^◌, ◌<◌, List, [], ◌∷◌, ◌++◌, length, take, Some, IsSome, codes}
+pub use Rattle.block_runs.specs.Run.{HasEnded}
+use Rattle.block_runs.specs.Run.{Reads as ReadsBlocks}
+use Rattle.block_runs.specs.Texts.{IsFirst, Begins}
+use Rattle.std.specs.Prelude.{◌≡◌, ℕ, List, [], ◌∷◌, ◌++◌, codes}
 use Rattle.flow_io.specs.declared.status.Status.{Status}
 use Rattle.flow_io.specs.declared.status.Status.TheVariants.{Clean, Partial, Refused, Words, Fault, Memory, Long}
 use Rattle.graph_text.specs.Blocks.{TextBlock, blocks, complete}
@@ -10,11 +13,7 @@ use Rattle.path_report.specs.declared.report.Report.{Report}
 use Rattle.flowpaths_cli.specs.Right.{IsReportOf, status_of}
 use Rattle.flowpaths_cli.specs.declared.settings.Settings.{Settings}
 
--- the input is the selected one, nothing is left of it, and fewer than 2^30 bytes of it were taken
-pub record HasEnded (file : List ℕ) (seen : Seen) : Type 0 where
-  pub nothing_left : left_of file seen.last ≡ Some []
-  pub short : length (taken file seen) < 2 ^ 30
-
+-- the blocks that may be reported
 abbrev pub shown : List ℕ → Seen → List TextBlock
 shown file seen = blocks_at (taken file seen) (left_of file seen.last)
 
@@ -36,19 +35,15 @@ IsOutputWith s status blocks text = (reports : List Report) × AreReports s bloc
 
 -- the text is an output for some first ones of these blocks
 abbrev pub IsFirstOutput : Settings → List TextBlock → List ℕ → Type 0
-IsFirstOutput s blocks text = (n : ℕ) × IsOutput s (take n blocks) text
+IsFirstOutput s blocks text = IsFirst (IsOutput s) blocks text
 
 -- the text is a beginning of an output for some first ones of these blocks
 abbrev pub BeginsOutput : Settings → List TextBlock → List ℕ → Type 0
-BeginsOutput s blocks text = (rest : List ℕ) × IsFirstOutput s blocks (text ++ rest)
+BeginsOutput s blocks text = Begins (IsOutput s) blocks text
 
 -- what a run with this status took of its input
-pub record Reads (s : Settings) (status : Status) (seen : Seen) : Type 0 where
-  pub first : TakesFirst s.file seen
-  pub selected : status ≡ Memory → IsSome (left_of s.file seen.last)
-  pub ended : IsDone status → HasEnded s.file seen
-  pub long : status ≡ Long → length (taken s.file seen) ≡ 2 ^ 30
-  pub verdict : IsDone status → (text : List ℕ) × IsOutputWith s status (blocks (taken s.file seen)) text
+abbrev pub Reads : Settings → Status → Seen → Type 0
+Reads s status seen = ReadsBlocks (IsOutputWith s) s.file status seen
 
 -- what a run with this status wrote
 pub record Writes (s : Settings) (status : Status) (out_rose : Type 0) (seen : Seen) (text : List ℕ) : Type 0 where

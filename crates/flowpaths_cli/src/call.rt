@@ -7,10 +7,11 @@ ghost use Rattle.flowpaths_cli.specs.Words.{texts, settings_of};
 ghost use Rattle.flowpaths_cli.specs.Run.{WhereSeen, WhereWritten, Reads, Writes, Notes, note_of};
 
 use crate::generated::report_generated;
-use crate::reading::report_input;
+use crate::reporting::Reporting;
 use crate::settings::Settings;
 use crate::telling::tell;
 use crate::words::WordFault;
+use block_runs::run_input;
 use flow_io::{Inputs, Output, Status};
 use std::alloc::Global;
 
@@ -118,12 +119,12 @@ fn run_settings<I: Inputs, O: Output>(
 {
     match settings.demo {
         Some(seed) => report_generated(alloc, settings, seed, out),
-        None => run_input(alloc, settings, inputs, out),
+        None => report_input(alloc, settings, inputs, out),
     }
 }
 
-/// Selects the input that the settings name, and reports its blocks.
-fn run_input<I: Inputs, O: Output>(
+/// Reports the blocks of the input that the settings name.
+fn report_input<I: Inputs, O: Output>(
     alloc: Global,
     settings: &Settings,
     inputs: &mut I,
@@ -141,8 +142,9 @@ fn run_input<I: Inputs, O: Output>(
     ensures holds { (any : List ℕ) → I.holds inputs.new any ≡ I.holds inputs.old any }
     ensures told { is_some (I.selected inputs.new) ≡ is_some (I.selected inputs.old) }
 {
-    if inputs.select(settings.file.as_str()).is_err() {
-        return Status::Fault;
-    }
-    report_input(alloc, settings, inputs, out)
+    let mut reporting = Reporting {
+        settings,
+        status: Status::Clean,
+    };
+    run_input(alloc, &mut reporting, settings.file.as_str(), inputs, out)
 }

@@ -1,21 +1,27 @@
-//! The report of one block after another, each written before more of the input is read.
-ghost use Rattle.std.specs.Prelude.{◌≡◌, ◌≤◌, ◌<◌, ◌^◌, List, [], ◌∷◌, ◌++◌, ℕ, length, Option, IfOk, IfErr, IfSome, IsTrue};
-ghost use Rattle.flow_io.specs.Outside.{Rose};
-ghost use Rattle.graph_text.specs.Blocks.{TextBlock, blocks, complete};
-ghost use Rattle.graph_text.specs.Reader.{waiting_of, IsTaken};
+//! The worker that writes a report for each block.
+ghost use Rattle.std.specs.Prelude.{◌≡◌, ◌≤◌, ◌∷◌, [], ◌++◌, List, IfOk, IfErr, IsTrue};
 ghost use Rattle.path_report.specs.declared.report.Report.{Report as AReport};
 ghost use Rattle.graph_text.specs.Accepted.{IsAccepted};
 ghost use Rattle.path_report.specs.ReportText.{is_regular_body};
 ghost use Rattle.flowpaths_cli.specs.Right.{status_of, AreBuilt, BodyRight, labels_of};
-ghost use Rattle.flowpaths_cli.specs.Reporting.{Wrote, WroteFirst, WroteBeginning, Underway, IsUnderway, IsHandedFor, AreHandedFor};
+ghost use Rattle.flowpaths_cli.specs.Run.{IsOutput, IsOutputWith};
+ghost use Rattle.flowpaths_cli.specs.Reporting.{HasReported, model_stays};
 
 use crate::settings::Settings;
 use crate::solving::solve_block;
-use crate::stop::Stop;
+use block_runs::{Stop, Worker};
+use dag_net::Mode;
 use flow_io::{Output, Status};
-use graph_text::{Block, BlockReader, Labels, RawGraph, Refusal};
+use graph_text::{Block, Labels, RawGraph, Refusal};
 use path_report::{Body, Mark, Report, write_report};
 use std::alloc::{AllocError, Global};
+
+/// Reports blocks under settings. The status is that of the reports so far.
+#[derive(Drop)]
+pub struct Reporting<'a> {
+    pub settings: &'a Settings,
+    pub status: Status,
+}
 
 /// The status of the reports so far and of one more.
 fn status_after(status: Status, body: &Body) -> Status
@@ -32,7 +38,7 @@ fn status_after(status: Status, body: &Body) -> Status
 }
 
 /// What is said of a block that is read so, with the labels for its report.
-pub fn answer(
+pub fn solve_body(
     alloc: Global,
     settings: &Settings,
     body: Result<RawGraph, Refusal>,
@@ -53,125 +59,46 @@ pub fn answer(
     }
 }
 
-/// Solves a block and writes its report. An `Err` for want of memory writes nothing.
-fn report_block<O: Output>(
-    alloc: Global,
-    settings: &Settings,
-    block: Block,
-    out: &mut O,
-    status: Status,
-) -> Result<Status, Stop>
-    requires built { AreBuilt settings.now }
-    requires handed { (text : TextBlock) × IsHandedFor settings.now.mode text block }
-    ensures done { IfOk result (λ after. (text : TextBlock) → IsHandedFor settings.now.mode text block →
-        (shown : List TextBlock) (before : Option (List ℕ)) → Wrote settings.now shown status before (O.written out.old) →
-        Wrote settings.now (shown ++ text ∷ []) after before (O.written out.new)) }
-    ensures memory { result ≡ Err Stop.Memory → O.written out.new ≡ O.written out.old }
-    ensures cut { result ≡ Err Stop.Fault → (text : TextBlock) → IsHandedFor settings.now.mode text block →
-        (shown : List TextBlock) (before : Option (List ℕ)) → Wrote settings.now shown status before (O.written out.old) →
-        WroteBeginning settings.now (shown ++ text ∷ []) before (O.written out.new) }
-    ensures fault { result ≡ Err Stop.Fault → Rose (O.faults out.old) (O.faults out.new) }
-    ensures later { O.faults out.old ≤ O.faults out.new }
-{
-    let Block {
-        index,
-        line: _,
-        name,
-        body,
-    } = block;
-    let (body, labels) = answer(alloc, settings, body)?;
-    let report = Report {
-        index,
-        name,
-        mode: settings.mode,
-        body,
-    };
-    write_report(out, &report, &labels)?;
-    Ok(status_after(status, &report.body))
-}
+impl<'a> Worker for Reporting<'a> {
+    ghost model = { λ w. w.settings.now.mode };
 
-/// Reports the block that waits, if one does.
-fn report_waiting<O: Output>(
-    alloc: Global,
-    settings: &Settings,
-    reader: &mut BlockReader,
-    out: &mut O,
-    status: Status,
-) -> Result<Status, Stop>
-    requires built { AreBuilt settings.now }
-    requires handed { IfSome (waiting_of reader.old) (λ block. (text : TextBlock) × IsHandedFor settings.now.mode text block) }
-    ensures done { IfOk result (λ after. (waiting : List TextBlock) → AreHandedFor settings.now.mode waiting (waiting_of reader.old) →
-        (shown : List TextBlock) (before : Option (List ℕ)) → Wrote settings.now shown status before (O.written out.old) →
-        Wrote settings.now (shown ++ waiting) after before (O.written out.new)) }
-    ensures memory { result ≡ Err Stop.Memory → O.written out.new ≡ O.written out.old }
-    ensures cut { result ≡ Err Stop.Fault → (waiting : List TextBlock) → AreHandedFor settings.now.mode waiting (waiting_of reader.old) →
-        (shown : List TextBlock) (before : Option (List ℕ)) → Wrote settings.now shown status before (O.written out.old) →
-        WroteBeginning settings.now (shown ++ waiting) before (O.written out.new) }
-    ensures fault { result ≡ Err Stop.Fault → Rose (O.faults out.old) (O.faults out.new) }
-    ensures later { O.faults out.old ≤ O.faults out.new }
-    ensures reader { IsTaken reader.old reader.new }
-{
-    match reader.take() {
-        Some(block) => report_block(alloc, settings, block, out, status),
-        None => Ok(status),
+    ghost is_right = { λ w. IsOutput w.settings.now };
+
+    ghost may_be_cut = { λ _. Unit {0} };
+
+    ghost is_whole = { λ w. IsOutputWith w.settings.now };
+
+    ghost comes = { λ first now shown text. HasReported first now shown text };
+
+    fn mode(&self) -> Mode {
+        self.settings.mode
     }
-}
 
-/// Gives a piece of the input to the reader, and reports each block that it completes.
-pub fn report_piece<O: Output>(
-    alloc: Global,
-    settings: &Settings,
-    reader: &mut BlockReader,
-    piece: &[u8],
-    out: &mut O,
-    status: Status,
-) -> Result<Status, Stop>
-    requires built { AreBuilt settings.now }
-    requires underway { IsUnderway settings.now reader.old (2 ^ 63) status (O.written out.old) }
-    requires short { length piece.now < 2 ^ 62 }
-    ensures done { IfOk result (λ after. (bytes : List ℕ) (before : Option (List ℕ)) →
-        Underway settings.now reader.old bytes status before (O.written out.old) →
-        Underway settings.now reader.new (bytes ++ piece.now) after before (O.written out.new)) }
-    ensures memory { result ≡ Err Stop.Memory → (bytes : List ℕ) (before : Option (List ℕ)) →
-        Underway settings.now reader.old bytes status before (O.written out.old) →
-        WroteFirst settings.now (complete (bytes ++ piece.now)) before (O.written out.new) }
-    ensures cut { result ≡ Err Stop.Fault → (bytes : List ℕ) (before : Option (List ℕ)) →
-        Underway settings.now reader.old bytes status before (O.written out.old) →
-        WroteBeginning settings.now (complete (bytes ++ piece.now)) before (O.written out.new) }
-    ensures fault { result ≡ Err Stop.Fault → Rose (O.faults out.old) (O.faults out.new) }
-    ensures later { O.faults out.old ≤ O.faults out.new }
-{
-    let mut status = status;
-    let mut done = 0;
-    while done < piece.len() {
-        done += reader.feed(&piece[done..])?;
-        status = report_waiting(alloc, settings, reader, out, status)?;
+    /// Solves a block and writes its report.
+    fn answer<O: Output>(&mut self, alloc: Global, block: Block, out: &mut O) -> Result<(), Stop> {
+        let Block {
+            index,
+            line: _,
+            name,
+            body,
+        } = block;
+        let (body, labels) = solve_body(alloc, self.settings, body)?;
+        let report = Report {
+            index,
+            name,
+            mode: self.settings.mode,
+            body,
+        };
+        write_report(out, &report, &labels)?;
+        self.status = status_after(self.status, &report.body);
+        Ok(())
     }
-    Ok(status)
-}
 
-/// The input has ended: reports the last block, if there is one.
-pub fn report_end<O: Output>(
-    alloc: Global,
-    settings: &Settings,
-    reader: &mut BlockReader,
-    out: &mut O,
-    status: Status,
-) -> Result<Status, Stop>
-    requires built { AreBuilt settings.now }
-    requires underway { IsUnderway settings.now reader.old (2 ^ 63) status (O.written out.old) }
-    ensures done { IfOk result (λ after. (bytes : List ℕ) (before : Option (List ℕ)) →
-        Underway settings.now reader.old bytes status before (O.written out.old) →
-        Wrote settings.now (blocks bytes) after before (O.written out.new)) }
-    ensures memory { result ≡ Err Stop.Memory → (bytes : List ℕ) (before : Option (List ℕ)) →
-        Underway settings.now reader.old bytes status before (O.written out.old) →
-        WroteFirst settings.now (blocks bytes) before (O.written out.new) }
-    ensures cut { result ≡ Err Stop.Fault → (bytes : List ℕ) (before : Option (List ℕ)) →
-        Underway settings.now reader.old bytes status before (O.written out.old) →
-        WroteBeginning settings.now (blocks bytes) before (O.written out.new) }
-    ensures fault { result ≡ Err Stop.Fault → Rose (O.faults out.old) (O.faults out.new) }
-    ensures later { O.faults out.old ≤ O.faults out.new }
-{
-    reader.finish()?;
-    report_waiting(alloc, settings, reader, out, status)
+    fn end<O: Output>(&mut self, _alloc: Global, _out: &mut O) -> Result<Status, Stop> {
+        Ok(self.status)
+    }
+
+    ghost right = { λ first now shown text h. (h.output.0, h.output.1) };
+
+    ghost stays = { λ first now shown text h. model_stays first now shown text h };
 }

@@ -1,7 +1,6 @@
-use Rattle.std.proofs.Common.{◌≡◌, [], Err, sym, ap, subst, ◌∙◌}
+use Rattle.std.proofs.Common.{◌≡◌, [], Err, sym, subst}
 use Rattle.std.specs.Prelude.{IfOk}
 use Rattle.std.proofs.lemmas.Result.{IfOk-weaker, err_from_is_err_and}
-use Rattle.flow_io.specs.declared.status.Status.TheVariants.{Fault}
 use Rattle.flow_io.proofs.Causes.{Rose-before}
 use Rattle.graph_text.specs.Blocks.{blocks}
 use Rattle.graph_text.specs.Reader.{IsNew}
