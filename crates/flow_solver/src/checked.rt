@@ -7,7 +7,7 @@ ghost use Rattle.decomposition.specs.Graph.{edge_count};
 ghost use Rattle.decomposition.specs.Held.{Settles};
 ghost use Rattle.decomposition.specs.Instance.{IsInstance, greatest_hi};
 ghost use Rattle.flow_models.specs.Problem.{instance};
-ghost use Rattle.flow_solver.specs.Asked.{most_nodes};
+ghost use Rattle.flow_solver.specs.Asked.{MaySearch};
 ghost use Rattle.flow_solver.specs.Searched.{IsFoundFor, IsRefutedAlone};
 
 use crate::searching::trail_of;
@@ -85,9 +85,7 @@ pub fn checked_tree(
     found: Option<Tree>,
 ) -> Result<Option<Trail>, AllocError>
     requires valid { (mode : AMode) × IsInstance mode (instance net.now problem.now) }
-    requires cap { problem.now.cap ≡ greatest_hi problem.now.ranges }
-    requires most { nodes ≤ most_nodes }
-    requires few_rules { length problem.now.rules ≤ 32 }
+    requires searched { MaySearch nodes problem.now }
     ensures { IfOk result (λ kept. IfSome kept (IsRefutedAlone nodes (instance net.now problem.now))) }
 {
     let Some(Tree { decision, tokens }) = found else {

@@ -3,7 +3,7 @@ ghost use Rattle.std.specs.Prelude.{◌≡◌, ◌≤◌, ◌<◌, Some, length,
 ghost use Rattle.decomposition.specs.declared.Mode.TheVariants.{Interval};
 ghost use Rattle.decomposition.specs.Instance.{IsInstance, greatest_hi};
 ghost use Rattle.flow_models.specs.Problem.{instance};
-ghost use Rattle.flow_solver.specs.Asked.{most_nodes};
+ghost use Rattle.flow_solver.specs.Asked.{MaySearch};
 ghost use Rattle.flow_solver.specs.Searched.{IsFoundFor, IsRaised};
 
 use crate::checked::{checked_answer, checked_tree};
@@ -30,10 +30,8 @@ pub fn look_closer(
     most: u32,
 ) -> Result<Closer, AllocError>
     requires valid { IsInstance Interval (instance net.now problem.now) }
-    requires cap { problem.now.cap ≡ greatest_hi problem.now.ranges }
     requires few { most ≤ 8192 }
-    requires most { counted.nodes ≤ most_nodes }
-    requires few_rules { length problem.now.rules ≤ 32 }
+    requires searched { MaySearch counted.nodes problem.now }
     ensures paths { IfOk result (λ c. IfSome c.paths (IsFoundFor (instance net.now problem.now) (record { slots = most; limit = Some 0 }))) }
     ensures raised { IfOk result (λ c. IfSome c.raised (λ tree. IsRaised counted.entry.nodes (instance net.now problem.now) (length counted.entry.antichain.now) tree × (tree.decision.slots ≤ most))) }
 {
@@ -59,9 +57,7 @@ fn raised_by(
     found: Option<Tree>,
 ) -> Result<Option<Trail>, AllocError>
     requires valid { IsInstance Interval (instance net.now problem.now) }
-    requires cap { problem.now.cap ≡ greatest_hi problem.now.ranges }
-    requires most { nodes ≤ most_nodes }
-    requires few_rules { length problem.now.rules ≤ 32 }
+    requires searched { MaySearch nodes problem.now }
     ensures { IfOk result (λ raised. IfSome raised (λ tree. IsRaised nodes (instance net.now problem.now) width tree × (tree.decision.slots ≤ most))) }
 {
     let Some(tree) = checked_tree(alloc, net, problem, nodes, found)? else {

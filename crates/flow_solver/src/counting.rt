@@ -3,7 +3,7 @@ ghost use Rattle.std.specs.Prelude.{◌≡◌, ◌≤◌, ◌+◌, ◌-◌, ◌<
 ghost use Rattle.decomposition.specs.declared.Mode.TheVariants.{Interval};
 ghost use Rattle.decomposition.specs.Instance.{Instance, IsInstance, greatest_hi};
 ghost use Rattle.flow_models.specs.Problem.{instance};
-ghost use Rattle.flow_solver.specs.Asked.{most_nodes};
+ghost use Rattle.flow_solver.specs.Asked.{MaySearch};
 ghost use Rattle.flow_solver.specs.Searched.{AreFewPaths, FindsAs, IsKnown, IsRaised, StopsAt, count_of, floor_of};
 
 use crate::crowds::{Crowd, find_crowd};
@@ -48,10 +48,7 @@ pub fn count_by_lists(
     first: Option<Answer>,
 ) -> Result<Finding, AllocError>
     requires valid { IsInstance Interval (instance net.now problem.now) }
-    requires cap { problem.now.cap ≡ greatest_hi problem.now.ranges }
-    requires least { 1 ≤ nodes }
-    requires most { nodes ≤ most_nodes }
-    requires few_rules { length problem.now.rules ≤ 32 }
+    requires searched { MaySearch nodes problem.now }
     requires known { IfSome first (IsKnown Interval (instance net.now problem.now)) }
     requires few { IfSome first (AreFewPaths (instance net.now problem.now)) }
     ensures finds { IfOk result (FindsAs nodes (instance net.now problem.now) width) }
@@ -72,10 +69,7 @@ fn find_any(
     width: usize,
 ) -> Result<Finding, AllocError>
     requires valid { IsInstance Interval (instance net.now problem.now) }
-    requires cap { problem.now.cap ≡ greatest_hi problem.now.ranges }
-    requires least { 1 ≤ nodes }
-    requires most { nodes ≤ most_nodes }
-    requires few_rules { length problem.now.rules ≤ 32 }
+    requires searched { MaySearch nodes problem.now }
     ensures { IfOk result (FindsAs nodes (instance net.now problem.now) width) }
 {
     if let Some(Crowd { edge, rules }) = find_crowd(alloc, net, problem)? {
@@ -123,10 +117,7 @@ fn search_down(
     first: Answer,
 ) -> Result<Fewest, AllocError>
     requires valid { IsInstance Interval (instance net.now problem.now) }
-    requires cap { problem.now.cap ≡ greatest_hi problem.now.ranges }
-    requires least { 1 ≤ nodes }
-    requires most { nodes ≤ most_nodes }
-    requires few_rules { length problem.now.rules ≤ 32 }
+    requires searched { MaySearch nodes problem.now }
     requires known { IsKnown Interval (instance net.now problem.now) first }
     requires few { AreFewPaths (instance net.now problem.now) first }
     ensures known { IfOk result (λ fewest. IsKnown Interval (instance net.now problem.now) fewest.paths × AreFewPaths (instance net.now problem.now) fewest.paths) }
@@ -188,10 +179,7 @@ pub fn find_fewer(
     first: Answer,
 ) -> Result<Finding, AllocError>
     requires valid { IsInstance Interval (instance net.now problem.now) }
-    requires cap { problem.now.cap ≡ greatest_hi problem.now.ranges }
-    requires least { 1 ≤ nodes }
-    requires most { nodes ≤ most_nodes }
-    requires few_rules { length problem.now.rules ≤ 32 }
+    requires searched { MaySearch nodes problem.now }
     requires raised { IfSome raised (IsRaised nodes (instance net.now problem.now) width) }
     requires known { IsKnown Interval (instance net.now problem.now) first }
     requires few { AreFewPaths (instance net.now problem.now) first }

@@ -5,9 +5,8 @@ ghost use Rattle.decomposition.specs.Instance.{Instance, IsInstance, error, grea
 ghost use Rattle.flow_models.specs.Problem.{instance};
 ghost use Rattle.path_report.specs.Laws.{IsFoundIn};
 ghost use Rattle.flow_solver.specs.declared.asked.Asked.{Asked as Given};
-ghost use Rattle.flow_solver.specs.Asked.{most_nodes};
+ghost use Rattle.flow_solver.specs.Asked.{MayBeAsked, MaySearch};
 ghost use Rattle.flow_solver.specs.Right.{SolvedRight};
-ghost use Rattle.flow_solver.specs.Asked.{MayBeAsked};
 ghost use Rattle.flow_solver.specs.Searched.{AttemptsAs, IsFoundFor, IsNoWorseThanBooked, IsRefutedAlone, IsSpentBy, any_error};
 ghost use Rattle.flow_solver.specs.Halved.{HalvesTo, IsHalvedFor, IsHalving, steps_left};
 
@@ -70,11 +69,8 @@ fn first_attempt(
     k: u32,
 ) -> Result<Attempt, AllocError>
     requires valid { IsInstance (Abs k) (instance net.now problem.now) }
-    requires cap { problem.now.cap ≡ greatest_hi problem.now.ranges }
-    requires least { 1 ≤ nodes }
-    requires most { nodes ≤ most_nodes }
+    requires searched { MaySearch nodes problem.now }
     requires few { k ≤ 64 }
-    requires few_rules { length problem.now.rules ≤ 32 }
     ensures attempts { IfOk result (AttemptsAs nodes (instance net.now problem.now) (any_error k)) }
     ensures booked { IfOk result (IsNoWorseThanBooked k (instance net.now problem.now)) }
 {
@@ -96,11 +92,8 @@ fn attempt_any(
     k: u32,
 ) -> Result<Attempt, AllocError>
     requires valid { IsInstance (Abs k) (instance net.now problem.now) }
-    requires cap { problem.now.cap ≡ greatest_hi problem.now.ranges }
-    requires least { 1 ≤ nodes }
-    requires most { nodes ≤ most_nodes }
+    requires searched { MaySearch nodes problem.now }
     requires few { k ≤ 64 }
-    requires few_rules { length problem.now.rules ≤ 32 }
     ensures { IfOk result (AttemptsAs nodes (instance net.now problem.now) (any_error k)) }
 {
     let decision = Decision {
@@ -123,10 +116,8 @@ fn attempt_closer(
     trail: Trail,
 ) -> Result<Attempt, AllocError>
     requires valid { IsInstance (Abs k) (instance net.now problem.now) }
-    requires cap { problem.now.cap ≡ greatest_hi problem.now.ranges }
-    requires most { nodes ≤ most_nodes }
+    requires searched { MaySearch nodes problem.now }
     requires few { k ≤ 64 }
-    requires few_rules { length problem.now.rules ≤ 32 }
     requires spent { IsSpentBy nodes (instance net.now problem.now) (any_error k) trail }
     ensures { IfOk result (AttemptsAs nodes (instance net.now problem.now) (any_error k)) }
 {
@@ -185,11 +176,8 @@ fn find_least(
     first: Answer,
 ) -> Result<Halved, AllocError>
     requires valid { IsInstance (Abs k) (instance net.now problem.now) }
-    requires cap { problem.now.cap ≡ greatest_hi problem.now.ranges }
-    requires least { 1 ≤ nodes }
-    requires most { nodes ≤ most_nodes }
+    requires searched { MaySearch nodes problem.now }
     requires few { k ≤ 64 }
-    requires few_rules { length problem.now.rules ≤ 32 }
     requires found { IsFoundFor (instance net.now problem.now) (any_error k) first }
     ensures halves { IfOk result (HalvesTo nodes k (instance net.now problem.now)) }
     ensures better { IfOk result (λ halved. halved.upper ≤ error (instance net.now problem.now) first) }
@@ -217,10 +205,8 @@ fn bring_closer(
     halved: Halved,
 ) -> Result<Halved, AllocError>
     requires valid { IsInstance (Abs k) (instance net.now problem.now) }
-    requires cap { problem.now.cap ≡ greatest_hi problem.now.ranges }
-    requires most { nodes ≤ most_nodes }
+    requires searched { MaySearch nodes problem.now }
     requires few { k ≤ 64 }
-    requires few_rules { length problem.now.rules ≤ 32 }
     requires between { IsHalving nodes k (instance net.now problem.now) halved }
     ensures between { IfOk result (IsHalving nodes k (instance net.now problem.now)) }
     ensures better { IfOk result (λ after. after.upper ≤ halved.upper) }
@@ -310,9 +296,7 @@ fn halve_error(
     begun: Halved,
 ) -> Result<Halved, AllocError>
     requires valid { IsInstance (Abs k) (instance net.now problem.now) }
-    requires cap { problem.now.cap ≡ greatest_hi problem.now.ranges }
-    requires least { 1 ≤ nodes }
-    requires most { nodes ≤ most_nodes }
+    requires searched { MaySearch nodes problem.now }
     requires few { k ≤ 64 }
     requires between { IsHalving nodes k (instance net.now problem.now) begun }
     ensures halves { IfOk result (HalvesTo nodes k (instance net.now problem.now)) }
@@ -335,9 +319,7 @@ fn halve_once(
     halved: Halved,
 ) -> Result<Halved, AllocError>
     requires valid { IsInstance (Abs k) (instance net.now problem.now) }
-    requires cap { problem.now.cap ≡ greatest_hi problem.now.ranges }
-    requires least { 1 ≤ nodes }
-    requires most { nodes ≤ most_nodes }
+    requires searched { MaySearch nodes problem.now }
     requires few { k ≤ 64 }
     requires between { IsHalving nodes k (instance net.now problem.now) halved }
     requires apart { halved.lower < halved.upper }

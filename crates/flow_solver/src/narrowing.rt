@@ -6,7 +6,7 @@ ghost use Rattle.decomposition.specs.Graph.{edge_count};
 ghost use Rattle.decomposition.specs.Instance.{Instance, IsInstance, greatest_hi};
 ghost use Rattle.flow_models.specs.Problem.{instance};
 ghost use Rattle.flow_solver.specs.Crowds.{EachCarriesTaken};
-ghost use Rattle.flow_solver.specs.Asked.{most_nodes};
+ghost use Rattle.flow_solver.specs.Asked.{MaySearch};
 ghost use Rattle.flow_solver.specs.Searched.{AreFewPaths, FindsAs, IsKnown, IsRaised, IsSpentBy, StopsAt, count_of};
 ghost use Rattle.flow_solver.specs.declared.counting.Ending.TheVariants.{Spent as AtBudget};
 
@@ -28,10 +28,7 @@ pub fn find_fewest(
     first: Option<Answer>,
 ) -> Result<Finding, AllocError>
     requires valid { IsInstance Interval (instance net.now problem.now) }
-    requires cap { problem.now.cap ≡ greatest_hi problem.now.ranges }
-    requires least { 1 ≤ nodes }
-    requires most { nodes ≤ most_nodes }
-    requires few_rules { length problem.now.rules ≤ 32 }
+    requires searched { MaySearch nodes problem.now }
     requires known { IfSome first (IsKnown Interval (instance net.now problem.now)) }
     requires few { IfSome first (AreFewPaths (instance net.now problem.now)) }
     ensures finds { IfOk result (FindsAs nodes (instance net.now problem.now) (length antichain.now)) }
@@ -63,10 +60,7 @@ fn narrow(
     trail: Trail,
 ) -> Result<Finding, AllocError>
     requires valid { IsInstance Interval (instance net.now problem.now) }
-    requires cap { problem.now.cap ≡ greatest_hi problem.now.ranges }
-    requires least { 1 ≤ nodes }
-    requires most { nodes ≤ most_nodes }
-    requires few_rules { length problem.now.rules ≤ 32 }
+    requires searched { MaySearch nodes problem.now }
     requires known { IsKnown Interval (instance net.now problem.now) paths }
     requires few { AreFewPaths (instance net.now problem.now) paths }
     requires spent { StopsAt nodes (instance net.now problem.now) (length antichain.now) (length paths) (AtBudget trail None) }
@@ -130,10 +124,7 @@ fn narrow_open(
     trail: Trail,
 ) -> Result<Finding, AllocError>
     requires valid { IsInstance Interval (instance net.now problem.now) }
-    requires cap { problem.now.cap ≡ greatest_hi problem.now.ranges }
-    requires least { 1 ≤ nodes }
-    requires most { nodes ≤ most_nodes }
-    requires few_rules { length problem.now.rules ≤ 32 }
+    requires searched { MaySearch nodes problem.now }
     requires spent { IsSpentBy nodes (instance net.now problem.now) (decision_at_all Interval (instance net.now problem.now)) trail }
     requires carries { EachCarriesTaken (instance net.now problem.now) }
     ensures { IfOk result (FindsAs nodes (instance net.now problem.now) (length antichain.now)) }

@@ -4,7 +4,7 @@ ghost use Rattle.decomposition.specs.declared.Mode.{Mode as AMode};
 ghost use Rattle.decomposition.specs.Instance.{IsInstance, greatest_hi};
 ghost use Rattle.flow_models.specs.Problem.{instance};
 ghost use Rattle.path_report.specs.Laws.{IsSmall};
-ghost use Rattle.flow_solver.specs.Asked.{most_nodes};
+ghost use Rattle.flow_solver.specs.Asked.{MaySearch};
 ghost use Rattle.flow_solver.specs.Searched.{AttemptsAs};
 
 use branch_bound::{Outcome, Search};
@@ -34,9 +34,7 @@ pub fn search_once(
     decision: Decision,
 ) -> Result<Attempt, AllocError>
     requires valid { (mode : AMode) × IsInstance mode (instance net.now problem.now) }
-    requires cap { problem.now.cap ≡ greatest_hi problem.now.ranges }
-    requires least { 1 ≤ nodes }
-    requires most { nodes ≤ most_nodes }
+    requires searched { MaySearch nodes problem.now }
     requires few { decision.slots ≤ 8192 }
     requires small { IsSmall decision.limit }
     ensures { IfOk result (AttemptsAs nodes (instance net.now problem.now) decision) }

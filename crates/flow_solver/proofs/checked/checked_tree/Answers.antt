@@ -14,5 +14,5 @@ returns-in-Refutes c =
     let asked = c.in_ok-trail_of-in-Refutes.ensures.decision in
     let tokens : trail.tokens ≡ c.as_slice.result.now = c.in_ok-trail_of-in-Refutes.ensures.tokens ∙ (c.as_slice-in-Refutes.ensures.value ∙ sym c.as_slice.ensures.value) in
     let refuted = subst (λ d. IsRefutation i d trail.tokens) (sym asked) (subst (IsRefutation i c.in-Some.field-0.decision) (sym tokens) told) in
-    refuted_by_tokens c.args.nodes i trail c.in_ok-trail_of-in-Refutes.ensures.small.0 c.in_ok-trail_of-in-Refutes.ensures.small.1 (omega arith) (omega (arith, c.requires.few_rules))
+    refuted_by_tokens c.args.nodes i trail c.in_ok-trail_of-in-Refutes.ensures.small.0 c.in_ok-trail_of-in-Refutes.ensures.small.1 (omega arith) (omega (arith, c.requires.searched.few_rules))
     (omega (arith, ap length tokens, ap length c.as_slice.ensures.value, c.len.ensures, c.if-len-nodes.false)) refuted
