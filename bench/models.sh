@@ -3,7 +3,7 @@
 #
 #     bench/models.sh PROGRAM [COUNT]
 #
-# COUNT graphs of each kind, 1,000 by default. Each line: the kind and the words, how many graphs have each mark and certificate, tokens printed, the
+# COUNT graphs of each kind, 100 by default. Each line: the kind and the words, how many graphs have each mark and certificate, tokens printed, the
 # sum over the graphs in bounds of what lies between the bounds, wall seconds, peak memory in kB. It wants python3.
 set -euo pipefail
 
@@ -12,7 +12,7 @@ if [ $# -lt 1 ] || [ $# -gt 2 ]; then
     exit 2
 fi
 program=$(realpath "$1")
-count=${2:-1000}
+count=${2:-100}
 here=$(cd "$(dirname "$0")" && pwd)
 folder=$(mktemp -d)
 trap 'rm -rf "$folder"' EXIT

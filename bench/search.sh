@@ -3,7 +3,7 @@
 #
 #     bench/search.sh PROGRAM [COUNT]
 #
-# COUNT graphs, 1,000 by default, are run with 1, 1,000, 20,000 and 50,000 tokens for each search. Each line: how many graphs are optimal by
+# COUNT graphs, 100 by default, are run with 1, 1,000, 20,000 and 50,000 tokens for each search. Each line: how many graphs are optimal by
 # the width, how many by a tree, how many end in bounds, tokens printed, wall seconds, peak memory in kB. The reports of the first run and of
 # that with 1,000 tokens are checked by check_sums.py. It wants python3.
 set -euo pipefail
@@ -13,7 +13,7 @@ if [ $# -lt 1 ] || [ $# -gt 2 ]; then
     exit 2
 fi
 program=$(realpath "$1")
-count=${2:-1000}
+count=${2:-100}
 here=$(cd "$(dirname "$0")" && pwd)
 folder=$(mktemp -d)
 trap 'rm -rf "$folder"' EXIT
@@ -28,10 +28,11 @@ wide = tree = bounds = tokens = 0
 with open(report) as lines:
     for line in lines:
         fields = line.split()
-        if fields[:2] == ["mark", "bounds"]:
-            bounds += 1
+        if fields[0] == "mark":
+            mark = fields[1]
+            bounds += mark == "bounds"
         elif fields[0] == "cert" and fields[1] == "tree":
-            tree += 1
+            tree += mark == "optimal"
             tokens += int(fields[4])
         elif fields[0] == "trail":
             tokens += int(fields[3])
