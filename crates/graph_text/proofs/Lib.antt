@@ -20,6 +20,7 @@ pub mod Repeats
 pub mod GraphOfLines
 pub mod Linking
 pub mod SameNames
+pub mod Spelling
 pub mod Members
 pub mod TextBlocks
 pub mod BlockNames

@@ -7,7 +7,7 @@ use Rattle.decomposition.specs.Instance.{IsInstance}
 use Rattle.graph_text.specs.declared.block.RawGraph.{RawGraph}
 use Rattle.graph_text.specs.Labels.{AreLabels}
 use Rattle.graph_text.specs.Blocks.{TextBlock, blocks, complete}
-use Rattle.graph_text.specs.Reading.{read, instance_of}
+use Rattle.graph_text.specs.Reading.{most_edges, most_constraints, read, instance_of}
 
 -- no line of a block has a line feed in it
 abbrev pub HasWholeLines : TextBlock → Type 0
@@ -20,8 +20,8 @@ pub record IsAccepted (mode : Mode) (graph : RawGraph) : Type 0 where
   pub labels : AreLabels graph.labels
   pub edges : graph.labels.edges ≡ graph.net.edges
   pub vertices : length graph.labels.names ≡ graph.net.vertices
-  pub few_edges : edge_count graph.net ≤ 256
-  pub few_runs : length graph.runs ≤ 32
+  pub few_edges : edge_count graph.net ≤ most_edges
+  pub few_runs : length graph.runs ≤ most_constraints
 
 -- every graph that a block is read as is such a graph
 abbrev pub GraphsAreAccepted : Type 0

@@ -21,6 +21,11 @@ has_list listings vertices = list_any (λ listing. same_fields listing.names ver
 abbrev pub with_listing : List Listing → Listing → List Listing
 with_listing listings listing = if has_list listings listing.names then listings else listings ++ listing ∷ []
 
+-- names in a row, each with a space behind it
+abbrev pub spelled : List (List ℕ) → List ℕ
+spelled [] = []
+spelled (name ∷ names) = name ++ 32 ∷ spelled names
+
 -- whether two neighbours of a list are no edge of the labels
 abbrev pub is_unknown : LabelLists → Listing → Bool
 is_unknown labels listing = has_unknown labels.names labels.edges listing.names

@@ -11,10 +11,6 @@ use Rattle.graph_text.specs.Reading.{read}
 abbrev pub reads : Mode → List ℕ → List (Result RawGraph Refusal)
 reads mode text = map (read mode) (blocks text)
 
--- so many edge lines, from one vertex to others
-abbrev pub edge_lines : ℕ → List ℕ
-edge_lines n = flat_map (λ p. codes "s v" ++ decimal p.0 ++ codes " 0\n") (enumerate_from {X = List ℕ} 1 (replicate n []))
-
 -- so many `#S` lines, each of one of these edges
 abbrev pub run_lines : ℕ → List ℕ
 run_lines n = flat_map (λ p. codes "#S s v" ++ decimal p.0 ++ codes "\n") (enumerate_from {X = List ℕ} 1 (replicate n []))

@@ -1,4 +1,5 @@
 pub mod Labels
+pub mod KeptConstraints
 pub mod KeptLabels
 pub mod Lines
 pub mod Blocks

@@ -18,10 +18,10 @@ use Rattle.graph_text.specs.Blocks.{TextBlock}
 
 -- the most edges and the most constraints of a block, the most bytes of a line, and the greatest weight
 abbrev pub most_edges : ℕ
-most_edges = 256
+most_edges = 4096
 
 abbrev pub most_constraints : ℕ
-most_constraints = 32
+most_constraints = 256
 
 abbrev pub most_bytes : ℕ
 most_bytes = 65536

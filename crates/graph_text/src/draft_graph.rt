@@ -10,7 +10,7 @@ ghost use Rattle.graph_text.specs.FirstEdges.{IsFirstAt, IsUnbalancedEdge};
 ghost use Rattle.graph_text.specs.Labels.{is_field};
 ghost use Rattle.graph_text.specs.LineFaults.{fault_among, fault_of_edge, NoneRefused};
 ghost use Rattle.graph_text.specs.Constraints.{listing_of};
-ghost use Rattle.graph_text.specs.Reading.{Line, most_weight, ends_of, constraint_lines, edge_lines, range_of, read_lines};
+ghost use Rattle.graph_text.specs.Reading.{Line, most_edges, most_weight, ends_of, constraint_lines, edge_lines, range_of, read_lines};
 ghost use Rattle.graph_text.specs.ShownLine.{ShowsLine};
 
 use crate::block::RawGraph;
@@ -23,7 +23,7 @@ use dag_net::{BuildFault, Mode, Net, Range, Ranges};
 use std::alloc::{AllocError, Global};
 
 /// The most edges of a block.
-const MOST_EDGES: usize = 256;
+const MOST_EDGES: usize = 4_096;
 
 /// The first edge that the vertex is an end of.
 fn first_edge_at(net: &Net, v: u32) -> u32
@@ -44,7 +44,7 @@ pub struct DraftGraph {
     labels: Labels,
     ranges: Ranges,
     edge_numbers: Vec<u64>,
-    ghost few_edges: { vec_len edge_numbers ≤ 256 },
+    ghost few_edges: { vec_len edge_numbers ≤ most_edges },
     ghost few_names: { length labels.names ≤ 2 * vec_len edge_numbers },
     ghost numbered: { length labels.edges ≤ vec_len edge_numbers },
     ghost ranged: { length labels.edges ≤ length ranges },

@@ -5,8 +5,8 @@ ghost use Rattle.decomposition.specs.declared.Mode.TheVariants.{Exact, Interval}
 ghost use Rattle.graph_text.specs.Lines.{lines_of, fields_of};
 ghost use Rattle.graph_text.specs.Blocks.{blocks, complete, name_of};
 ghost use Rattle.graph_text.specs.Progress.{left_by};
-ghost use Rattle.graph_text.specs.declared.refusal.Why.TheVariants.{LongLine, BadCount, BadFields, BadWeight, BadRange, RepeatedEdge, TooManyEdges, TooManyConstraints, ShortConstraint, Cycle, UnknownEdge, Unconserved};
-ghost use Rattle.graph_text.specs.Examples.{reads, edge_lines, run_lines};
+ghost use Rattle.graph_text.specs.declared.refusal.Why.TheVariants.{LongLine, BadCount, BadFields, BadWeight, BadRange, RepeatedEdge, TooManyConstraints, ShortConstraint, Cycle, UnknownEdge, Unconserved};
+ghost use Rattle.graph_text.specs.Examples.{reads, run_lines};
 
 /// Lines end with a line feed or with the text, and fields with blanks; what stands in the block and the line in progress.
 pub fn lines_are_cut()
@@ -87,10 +87,9 @@ pub fn constraints_are_read()
     ensures word { reads Exact (codes "# x\n#S s t\ntwo\n") ≡ Err (record { line = 3; why = BadCount }) ∷ [] }
 {}
 
-/// The refusals past the limits.
+/// The refusals past the limits of lines and constraints.
 pub fn limits_are_kept()
-    ensures edges { reads Exact (codes "# x\n0\n" ++ edge_lines 257) ≡ Err (record { line = 259; why = TooManyEdges }) ∷ [] }
-    ensures constraints { reads Exact (codes "# x\n" ++ run_lines 33 ++ codes "2\ns t 1\n") ≡ Err (record { line = 34; why = TooManyConstraints }) ∷ [] }
-    ensures again { reads Exact (codes "# x\n" ++ run_lines 32 ++ codes "#S s v1\n0\n" ++ edge_lines 32) ≡ reads Exact (codes "# x\n" ++ run_lines 32 ++ codes "0\n" ++ edge_lines 32) }
+    ensures constraints { reads Exact (codes "# x\n" ++ run_lines 257 ++ codes "2\ns t 1\n") ≡ Err (record { line = 258; why = TooManyConstraints }) ∷ [] }
+    ensures again { reads Exact (codes "# x\n" ++ run_lines 256 ++ codes "#S s v1\n2\ns t 1\n") ≡ Err (record { line = 2; why = UnknownEdge }) ∷ [] }
     ensures long { reads Exact (codes "# x\n2\ns" ++ replicate 65533 32 ++ codes "t 1\n") ≡ Err (record { line = 3; why = LongLine }) ∷ [] }
 {}

@@ -15,9 +15,9 @@ pub enum Why {
     BadRange,
     /// An edge stands twice.
     RepeatedEdge,
-    /// There are more than 256 edges.
+    /// There are more than 4,096 edges.
     TooManyEdges,
-    /// There are more than 32 distinct constraints.
+    /// There are more than 256 distinct constraints.
     TooManyConstraints,
     /// A constraint lists fewer than two vertices.
     ShortConstraint,

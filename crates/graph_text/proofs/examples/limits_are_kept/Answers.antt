@@ -5,4 +5,4 @@ use Rattle.graph_text.proofs.examples.limits_are_kept.Goals as goal
 
 pub returns : goal.returns
 unfolding digits
-returns c = record { edges = refl; constraints = refl; again = refl; long = refl }
+returns c = record { constraints = refl; again = refl; long = refl }

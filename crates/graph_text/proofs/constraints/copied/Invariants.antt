@@ -1,6 +1,0 @@
-use Rattle.std.proofs.Common.{◌≡◌, ℕ, List, map, take}
-use Rattle.std.specs.Borrow.{Bor}
-use Rattle.graph_text.proofs.constraints.copied.Given as goal
-
-abbrev pub invariant-loop-name : goal.invariant-loop-name
-invariant-loop-name l = l.copies.items ≡ map (λ (name : Bor (List ℕ)). name.now) (take l.name-index l.names)
