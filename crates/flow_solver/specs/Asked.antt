@@ -8,7 +8,11 @@ use Rattle.flow_solver.specs.declared.asked.Asked.{Asked}
 
 -- the largest number of tokens of a search
 abbrev pub most_nodes : ℕ
-most_nodes = 50000
+most_nodes = 1000000
+
+-- the most runs that must be covered
+abbrev pub most_rules : ℕ
+most_rules = 256
 
 -- What may be asked: a model, a number of tokens in its range, and safe runs in the exact model alone.
 pub record MayBeAsked (asked : Asked) : Type 0 where
@@ -22,4 +26,4 @@ pub record MaySearch (nodes : ℕ) (p : Problem) : Type 0 where
   pub least : 1 ≤ nodes
   pub most : nodes ≤ most_nodes
   pub cap : p.cap ≡ greatest_hi p.ranges
-  pub few_rules : length p.rules ≤ 32
+  pub few_rules : length p.rules ≤ most_rules

@@ -9,7 +9,7 @@ ghost use Rattle.decomposition.specs.SafeRuns.{IsSafeFor, AreMaximal};
 ghost use Rattle.flow_models.specs.Problem.{instance};
 ghost use Rattle.path_report.specs.Laws.{IsFoundIn};
 ghost use Rattle.flow_solver.specs.Right.{SolvedRight};
-ghost use Rattle.flow_solver.specs.Asked.{MayBeAsked};
+ghost use Rattle.flow_solver.specs.Asked.{MayBeAsked, most_rules};
 ghost use Rattle.flow_solver.specs.Firsts.{IsFirstOfFlow};
 
 use crate::asked::Asked;
@@ -36,7 +36,7 @@ pub fn solve_exact(
     requires exact { asked.mode ≡ Exact }
     requires valid { IsInstance Exact (instance net.now problem.now) }
     requires cap { problem.now.cap ≡ greatest_hi problem.now.ranges }
-    requires few_rules { length problem.now.rules ≤ 32 }
+    requires few_rules { length problem.now.rules ≤ most_rules }
     ensures found { IfOk result (IsFoundIn net.now) }
     ensures right { IfOk result (SolvedRight asked (instance net.now problem.now)) }
 {

@@ -10,7 +10,7 @@ ghost use Rattle.flow_models.specs.Problem.{instance};
 ghost use Rattle.greedy_paths.specs.Built.{IsBuiltOn};
 ghost use Rattle.path_report.specs.Laws.{IsFoundIn};
 ghost use Rattle.flow_solver.specs.Right.{SolvedRight};
-ghost use Rattle.flow_solver.specs.Asked.{MayBeAsked};
+ghost use Rattle.flow_solver.specs.Asked.{MayBeAsked, most_rules};
 ghost use Rattle.flow_solver.specs.Firsts.{IsWithin};
 
 use crate::asked::Asked;
@@ -48,7 +48,7 @@ pub fn solve_interval(
     requires interval { asked.mode ≡ Interval }
     requires valid { IsInstance Interval (instance net.now problem.now) }
     requires cap { problem.now.cap ≡ greatest_hi problem.now.ranges }
-    requires few_rules { length problem.now.rules ≤ 32 }
+    requires few_rules { length problem.now.rules ≤ most_rules }
     ensures found { IfOk result (IsFoundIn net.now) }
     ensures right { IfOk result (SolvedRight asked (instance net.now problem.now)) }
 {
@@ -65,7 +65,7 @@ pub fn solve_interval(
 /// A cut of the ranges, or where the booked paths fit the shorter one of the first answers of two flows.
 fn first_within(alloc: Global, net: &Net, problem: &Problem) -> Result<Within, AllocError>
     requires valid { IsInstance Interval (instance net.now problem.now) }
-    requires few_rules { length problem.now.rules ≤ 32 }
+    requires few_rules { length problem.now.rules ≤ most_rules }
     ensures { IfOk result (IsWithin (instance net.now problem.now)) }
 {
     let flow = match bounded_flow(alloc, net, problem.ranges.as_slice())? {
@@ -93,7 +93,7 @@ fn answer_over(alloc: Global, net: &Net, flow: &[u64], booked: Answer) -> Result
     requires balanced { IsBalanced net.now (slice_index flow.now) }
     requires answer { IsAnswer net.now booked }
     requires units { IsTrue (list_all (λ entry. entry.1 == 1) booked) }
-    requires few { length booked ≤ 32 }
+    requires few { length booked ≤ most_rules }
     requires room { (e : ℕ) → e < edge_count net.now → weight_on booked e ≤ slice_index flow.now e }
     ensures sums { IfOk result (Decomposes net.now (slice_index flow.now)) }
     ensures order { IfOk result IsInReportOrder }

@@ -5,7 +5,7 @@ ghost use Rattle.decomposition.specs.Instance.{Instance, IsInstance, error, grea
 ghost use Rattle.flow_models.specs.Problem.{instance};
 ghost use Rattle.path_report.specs.Laws.{IsFoundIn};
 ghost use Rattle.flow_solver.specs.declared.asked.Asked.{Asked as Given};
-ghost use Rattle.flow_solver.specs.Asked.{MayBeAsked, MaySearch};
+ghost use Rattle.flow_solver.specs.Asked.{MayBeAsked, MaySearch, most_rules};
 ghost use Rattle.flow_solver.specs.Right.{SolvedRight};
 ghost use Rattle.flow_solver.specs.Searched.{AttemptsAs, IsFoundFor, IsNoWorseThanBooked, IsRefutedAlone, IsSpentBy, any_error};
 ghost use Rattle.flow_solver.specs.Halved.{HalvesTo, IsHalvedFor, IsHalving, steps_left};
@@ -37,7 +37,7 @@ pub fn solve_least_error(
     requires least_error { asked.mode ≡ Abs k }
     requires valid { IsInstance (Abs k) (instance net.now problem.now) }
     requires cap { problem.now.cap ≡ greatest_hi problem.now.ranges }
-    requires few_rules { length problem.now.rules ≤ 32 }
+    requires few_rules { length problem.now.rules ≤ most_rules }
     ensures found { IfOk result (IsFoundIn net.now) }
     ensures right { IfOk result (SolvedRight asked (instance net.now problem.now)) }
 {

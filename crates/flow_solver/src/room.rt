@@ -3,6 +3,7 @@ ghost use Rattle.std.specs.Prelude.{◌≡◌, ◌≤◌, ◌<◌, ◌==◌, ◌
 ghost use Rattle.std.specs.List.{list_all};
 ghost use Rattle.decomposition.specs.Answer.{IsAnswer};
 ghost use Rattle.decomposition.specs.Graph.{edge_count};
+ghost use Rattle.flow_solver.specs.Asked.{most_rules};
 ghost use Rattle.flow_solver.specs.Right.{NothingIsWithin};
 ghost use Rattle.flow_solver.specs.Room.{HasRoomFor, HasNoRoomFor, HasNoneAbove, IsFlowAbove, AreRaised, IsPassed, IsFlowIn, ranged};
 
@@ -24,7 +25,7 @@ pub fn flow_with_room(
     requires flow { IsFlowIn net.now ranges.now flow }
     requires answer { IsAnswer net.now booked.now }
     requires units { IsTrue (list_all (λ entry. entry.1 == 1) booked.now) }
-    requires few { length booked.now ≤ 32 }
+    requires few { length booked.now ≤ most_rules }
     ensures { IfOk result (λ found. MatchOption found (HasNoRoomFor net.now ranges.now booked.now) (HasRoomFor net.now ranges.now booked.now)) }
 {
     if booked.len() == 0 {

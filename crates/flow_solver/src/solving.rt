@@ -3,7 +3,7 @@ ghost use Rattle.std.specs.Prelude.{◌≡◌, ◌≤◌, length, IfOk};
 ghost use Rattle.decomposition.specs.Instance.{IsInstance, greatest_hi};
 ghost use Rattle.flow_models.specs.Problem.{instance};
 ghost use Rattle.path_report.specs.Laws.{IsFoundIn};
-ghost use Rattle.flow_solver.specs.Asked.{MayBeAsked};
+ghost use Rattle.flow_solver.specs.Asked.{MayBeAsked, most_rules};
 ghost use Rattle.flow_solver.specs.Right.{SolvedRight};
 
 use crate::asked::Asked;
@@ -25,7 +25,7 @@ pub fn solve(
     requires ready { MayBeAsked asked }
     requires valid { IsInstance asked.mode (instance net.now problem.now) }
     requires cap { problem.now.cap ≡ greatest_hi problem.now.ranges }
-    requires few_rules { length problem.now.rules ≤ 32 }
+    requires few_rules { length problem.now.rules ≤ most_rules }
     ensures found { IfOk result (IsFoundIn net.now) }
     ensures right { IfOk result (SolvedRight asked (instance net.now problem.now)) }
 {

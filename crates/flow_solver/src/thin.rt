@@ -9,6 +9,7 @@ ghost use Rattle.std.specs.Prelude.{◌≡◌, ◌↔◌, ◌+◌, ◌≤◌, �
 ghost use Rattle.std.specs.List.{list_all};
 ghost use Rattle.decomposition.specs.Answer.{IsAnswer};
 ghost use Rattle.decomposition.specs.Graph.{IsPath, edge_count};
+ghost use Rattle.flow_solver.specs.Asked.{most_rules};
 ghost use Rattle.flow_solver.specs.Room.{AreReached, AreAtMost, FitsAlong, HasRoomFor, IsAddedAlong, IsLeftOf, IsSettling};
 
 use crate::room::flow_above;
@@ -38,7 +39,7 @@ pub fn thin_flow(
     requires bounded { IsTrue (list_all (λ r. nat_le r.lo r.hi && nat_le r.hi 1000000000000) ranges.now) }
     requires answer { IsAnswer net.now booked.now }
     requires units { IsTrue (list_all (λ entry. entry.1 == 1) booked.now) }
-    requires few { length booked.now ≤ 32 }
+    requires few { length booked.now ≤ most_rules }
     requires room { HasRoomFor net.now ranges.now booked.now flow }
     ensures { IfOk result (HasRoomFor net.now ranges.now booked.now) }
 {

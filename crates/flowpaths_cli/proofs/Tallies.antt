@@ -13,7 +13,7 @@ use Rattle.flow_io.specs.declared.status.Status.{Status}
 use Rattle.flow_io.specs.declared.status.Status.TheVariants.{Clean, Partial}
 use Rattle.graph_text.specs.Accepted.{IsAccepted}
 use Rattle.graph_text.specs.Blocks.{TextBlock}
-use Rattle.graph_text.specs.Reading.{instance_of}
+use Rattle.graph_text.specs.Reading.{most_edges, most_constraints, instance_of}
 use Rattle.graph_text.specs.declared.block.RawGraph.{RawGraph}
 use Rattle.graph_text.specs.declared.refusal.Refusal.{Refusal}
 use Rattle.path_report.specs.declared.report.Report.{Report}
@@ -27,7 +27,7 @@ use Rattle.flowpaths_cli.specs.Marks.{is_best, paths_of}
 use Rattle.flow_solver.specs.Right.{ArePathsFor, AreFew}
 use Rattle.flowpaths_cli.specs.Right.{AreBuilt, BodyRight, IsReportOf, is_open}
 use Rattle.flowpaths_cli.specs.Run.{AreReports}
-use Rattle.flowpaths_cli.specs.Tally.{tally_of, lines_of, IsWithin}
+use Rattle.flowpaths_cli.specs.Tally.{most_told, tally_of, lines_of, IsWithin}
 use Rattle.flowpaths_cli.proofs.Reports.{reports-more}
 
 -- one report for each block
@@ -51,14 +51,14 @@ tallied-within s t (shown, short, is) =
 
 -- a right body in the exact model has few paths
 few-upper : (mode : Mode) (i : Instance) (upper : Option ℕ) (paths : List (List ℕ × ℕ)) → mode ≡ Exact → ArePathsFor mode i upper paths → AreFew mode i paths
-    → edge_count i.graph ≤ 256 → length i.rules ≤ 32 → unwrap_or upper 0 ≤ 1024
+    → edge_count i.graph ≤ most_edges → length i.rules ≤ most_constraints → unwrap_or upper 0 ≤ most_told
 few-upper mode i None paths exact right few edges rules = omega arith
 few-upper mode i (Some upper) paths exact right few edges rules =
     let bound : length paths ≤ edge_count i.graph + length i.rules = subst (λ m. AreFew m i paths) exact few in
     let same : length paths ≡ upper = subst (λ m. objective m i paths ≡ upper) exact right.1 in
     omega (arith, bound, same, edges, rules)
 
-pub paths-few : (s : Settings) (read : Result RawGraph Refusal) (body : Body) → s.mode ≡ Exact → IfOk read (IsAccepted s.mode) → BodyRight s read body → paths_of body ≤ 1024
+pub paths-few : (s : Settings) (read : Result RawGraph Refusal) (body : Body) → s.mode ≡ Exact → IfOk read (IsAccepted s.mode) → BodyRight s read body → paths_of body ≤ most_told
 paths-few s (Err refusal) (Refused r) exact valid right = omega arith
 paths-few s (Err refusal) (SolvedBody solved) exact valid right = absurd right
 paths-few s (Ok graph) (Refused r) exact valid right = absurd right
@@ -67,7 +67,7 @@ paths-few s (Ok graph) (SolvedBody solved) exact valid right =
 
 -- one report more
 tallied-more : (s : Settings) (shown : List TextBlock) (old new : Tally) (block : TextBlock) (report : Report) (piece : List ℕ) → IsTallied s shown old →
-    IsReportOf s block report piece → paths_of report.body ≤ 1024 → ((reports : List Report) → old ≡ tally_of reports → new ≡ tally_of (reports ++ report ∷ [])) →
+    IsReportOf s block report piece → paths_of report.body ≤ most_told → ((reports : List Report) → old ≡ tally_of reports → new ≡ tally_of (reports ++ report ∷ [])) →
     IsTallied s (shown ++ block ∷ []) new
 tallied-more s shown old new block report piece is one small counted =
     let counts = counted is.reports is.counts in
@@ -88,7 +88,7 @@ tallied-more s shown old new block report piece is one small counted =
     }
 
 pub counted-more : (first now : Counting) (new : Tally) (shown : List TextBlock) (text : List ℕ) (block : TextBlock) (report : Report) (piece : List ℕ) → HasCounted first now shown text →
-    IsReportOf now.settings.now block report piece → paths_of report.body ≤ 1024 → ((reports : List Report) → now.tally ≡ tally_of reports → new ≡ tally_of (reports ++ report ∷ [])) →
+    IsReportOf now.settings.now block report piece → paths_of report.body ≤ most_told → ((reports : List Report) → now.tally ≡ tally_of reports → new ≡ tally_of (reports ++ report ∷ [])) →
     HasCounted first (record { settings = now.settings; tally = new }) (shown ++ block ∷ []) (text ++ [])
 counted-more first now new shown text block report piece h one small counted = record {
   built = h.built;

@@ -14,7 +14,7 @@ use Rattle.flowpaths_cli.specs.declared.settings.Settings.{Settings}
 use Rattle.flowpaths_cli.specs.declared.tally.Tally.{Tally}
 use Rattle.flowpaths_cli.specs.Right.{AreBuilt}
 use Rattle.flowpaths_cli.specs.Run.{AreReports}
-use Rattle.flowpaths_cli.specs.Tally.{tally_of, lines_of}
+use Rattle.flowpaths_cli.specs.Tally.{most_told, tally_of, lines_of}
 
 -- right reports for these blocks, one for each, were made, and these are their counts
 pub record IsTallied (s : Settings) (shown : List TextBlock) (t : Tally) : Type 0 where
@@ -22,7 +22,7 @@ pub record IsTallied (s : Settings) (shown : List TextBlock) (t : Tally) : Type 
   pub text : List ℕ
   pub right : AreReports s shown reports text
   pub counts : t ≡ tally_of reports
-  pub few : t.paths ≤ 1024 * length reports
+  pub few : t.paths ≤ most_told * length reports
 
 -- the counts are those of right reports for fewer than 2^32 blocks
 abbrev pub AreTallied : Settings → Tally → Type 0

@@ -4,7 +4,7 @@ ghost use Rattle.graph_text.specs.Reading.{are_digits, number_of};
 ghost use Rattle.flowpaths_cli.specs.Numbers.{number_in};
 
 /// The most tokens of a search that the words may name.
-pub const MOST_NODES: u32 = 50_000;
+pub const MOST_NODES: u32 = 1_000_000;
 
 /// The most paths.
 pub const MOST_PATHS: u32 = 64;

@@ -1,7 +1,7 @@
 //! What a block is answered.
 ghost use Rattle.std.specs.Prelude.{◌≤◌, length, IfOk};
 ghost use Rattle.decomposition.specs.Instance.{IsInstance};
-ghost use Rattle.graph_text.specs.Reading.{instance_of};
+ghost use Rattle.graph_text.specs.Reading.{instance_of, most_constraints};
 ghost use Rattle.flowpaths_cli.specs.Right.{SolvedRight};
 ghost use Rattle.flowpaths_cli.specs.Solving.{AreForSolving, IsRegularFor, IsReportable};
 
@@ -21,7 +21,7 @@ pub fn solve_block(
 ) -> Result<Solved, AllocError>
     requires ready { AreForSolving settings.now }
     requires valid { IsInstance settings.now.mode (instance_of graph.now) }
-    requires few_runs { length graph.now.runs ≤ 32 }
+    requires few_runs { length graph.now.runs ≤ most_constraints }
     ensures right { IfOk result (SolvedRight settings.now (instance_of graph.now)) }
     ensures regular { IfOk result (IsRegularFor graph.now.net) }
     ensures reportable { IfOk result (IsReportable settings.now (instance_of graph.now)) }

@@ -17,7 +17,7 @@ pub struct Tally {
 }
 
 impl Tally {
-    ghost use Rattle.flowpaths_cli.specs.Tally.{tally_of, lines_of, IsWithin};
+    ghost use Rattle.flowpaths_cli.specs.Tally.{most_told, tally_of, lines_of, IsWithin};
 
     /// The counts of no graph.
     pub fn new() -> Tally
@@ -34,7 +34,7 @@ impl Tally {
     /// Counts what is said of one more graph.
     pub fn add(&mut self, body: &Body)
         requires within { IsWithin self.old }
-        requires few { paths_of body.now ≤ 1024 }
+        requires few { paths_of body.now ≤ most_told }
         ensures { (reports : List AReport) (report : AReport) → self.old ≡ tally_of reports → report.body ≡ body.now
             → self.new ≡ tally_of (reports ++ report ∷ []) }
     {
