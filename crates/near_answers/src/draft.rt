@@ -85,11 +85,18 @@ impl<'a> Draft<'a> {
         self.paths.push(self.passes.path(), weight)
     }
 
-    /// Adds the best path through each rule that no path contains, in the order given; false where that takes more than k paths.
+    /// Adds the best path through each rule that no path contains, in the order given; false where that takes more than k paths, or the
+    /// purse is spent before.
     pub fn cover(&mut self, order: &Names, k: u32, purse: &mut Purse) -> bool {
         for place in 0..order.len() {
             let run = self.run(order.at(place));
-            if !self.is_covered(run, NONE) && self.passes.find_through(&self.spans, run, purse) {
+            if self.is_covered(run, NONE) {
+                continue;
+            }
+            if purse.is_spent() {
+                return false;
+            }
+            if self.passes.find_through(&self.spans, run, purse) {
                 if self.paths.count() >= k || !self.add_found() {
                     return false;
                 }
@@ -98,10 +105,10 @@ impl<'a> Draft<'a> {
         true
     }
 
-    /// Adds best paths while they lower the error, up to k.
+    /// Adds best paths while they lower the error and the purse is not spent, up to k.
     pub fn fill(&mut self, k: u32, purse: &mut Purse) {
         for _ in self.paths.count()..k {
-            if !self.passes.find(&self.spans, purse) || !self.add_found() {
+            if purse.is_spent() || !self.passes.find(&self.spans, purse) || !self.add_found() {
                 break;
             }
         }
@@ -160,15 +167,18 @@ impl<'a> Draft<'a> {
         improved
     }
 
-    /// Improves all paths in turn until none is improved.
+    /// Improves all paths in turn until none is improved, or the purse is spent.
     pub fn settle(&mut self, purse: &mut Purse) {
         for _ in 0..SWEEPS {
             let mut improved = false;
             for i in 0..self.paths.count() {
+                if purse.is_spent() {
+                    return;
+                }
                 let better = self.improve(i, purse);
                 improved = improved || better;
             }
-            if !improved || purse.is_spent() {
+            if !improved {
                 break;
             }
         }

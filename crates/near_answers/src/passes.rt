@@ -104,7 +104,7 @@ impl<'a> Passes<'a> {
         self.gain
     }
 
-    /// Finds the path that lowers the error most; false where none lowers it.
+    /// Finds the path that lowers the error most, of the weights that the purse pays for; false where none lowers it.
     pub fn find(&mut self, spans: &Spans, purse: &mut Purse) -> bool {
         self.start(spans, None);
         let apart = self.weights.len() / WEIGHTS;
@@ -113,6 +113,9 @@ impl<'a> Passes<'a> {
             let Some(&weight) = self.weights.get(place) else {
                 break;
             };
+            if purse.is_spent() {
+                break;
+            }
             purse.spend(u64::from(self.view.edges()));
             self.pass_back(spans, weight);
             self.keep_best(weight);
@@ -121,7 +124,8 @@ impl<'a> Passes<'a> {
         self.weight > 0
     }
 
-    /// Finds the path through a run that lowers the error most, or raises it least; false where no weight is to be had.
+    /// Finds the path through a run that lowers the error most, or raises it least, of the weights that the purse pays for; false where no
+    /// weight is to be had.
     pub fn find_through(&mut self, spans: &Spans, run: &[u32], purse: &mut Purse) -> bool {
         self.start(spans, Some(run));
         let apart = self.weights.len() / WEIGHTS;
@@ -130,6 +134,9 @@ impl<'a> Passes<'a> {
             let Some(&weight) = self.weights.get(place) else {
                 break;
             };
+            if purse.is_spent() {
+                break;
+            }
             purse.spend(u64::from(self.view.edges()).saturating_mul(2));
             self.pass_back(spans, weight);
             self.pass_on(spans, weight);
