@@ -11,7 +11,7 @@ use Rattle.decomposition.specs.Graph.{graph_of, edge_count, below}
 use Rattle.graph_text.specs.declared.refusal.Why.TheVariants.{LongLine, BadCount, BadFields, BadWeight, BadRange, RepeatedEdge, TooManyEdges, TooManyConstraints, ShortConstraint, Cycle, UnknownEdge, Unconserved}
 use Rattle.graph_text.specs.declared.block.RawGraph.{RawGraph}
 use Rattle.graph_text.specs.Lines.{are_no_fields, are_hash_fields, are_run_fields}
-use Rattle.graph_text.specs.Reading.{most_edges, Line, line_at, numbered_lines, filled_lines, content_lines, run_lines, count_lines, edge_lines, listed, ends_of, last_fields, is_weight, is_count, range_of, refused, long_lines, last_filled, bad_counts, repeats, is_short, first_listed, constraint_lines, line_refusals, names_of, edge_of, distinct, raw_graph_of, has_unknown, lines_naming, closes_cycle, cycle_lines, unknown_lines, unconserved_lines, is_unbalanced, earliest, or_else, err_or, refusal_of, read_lines, run_of, edges_of}
+use Rattle.graph_text.specs.Reading.{most_edges, most_constraints, Line, line_at, numbered_lines, filled_lines, content_lines, run_lines, count_lines, edge_lines, listed, ends_of, last_fields, is_weight, is_count, range_of, refused, long_lines, last_filled, bad_counts, repeats, is_short, first_listed, constraint_lines, line_refusals, names_of, edge_of, distinct, raw_graph_of, has_unknown, lines_naming, closes_cycle, cycle_lines, unknown_lines, unconserved_lines, is_unbalanced, earliest, or_else, err_or, refusal_of, read_lines, run_of, edges_of}
 use Rattle.graph_text.proofs.Finishing.{lines_where-none}
 use Rattle.demo_text.specs.Demo.{same_names}
 use Rattle.demo_text.proofs.PlainLines.{IsWord, IsWord-decimal}
@@ -106,7 +106,7 @@ module _ (h c : Line) (es : List Line) (header : IsHeader h) (count : IsCount c)
         ++ refused BadRange (no_edge (λ l. let r = range_of Exact l in nat_lt r.hi r.lo) edge-range i)
         ++ refused RepeatedEdge ((ap repeats edges ∙ once) i)
         ++ refused TooManyEdges (take 1 ((ap (drop most_edges) edges ∙ drop_all most_edges es few) i))
-        ++ refused TooManyConstraints (take 1 (drop 32 (no_constraint i)))
+        ++ refused TooManyConstraints (take 1 (drop most_constraints (no_constraint i)))
         ++ refused ShortConstraint (filter is_short (runs i)))
 
 -- the graph of the lines of edges
