@@ -3,6 +3,7 @@
 
 mod asked;
 mod bounds;
+mod carried;
 mod checked;
 mod closer;
 mod counted;

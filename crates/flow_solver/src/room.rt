@@ -9,7 +9,7 @@ ghost use Rattle.flow_solver.specs.Room.{HasRoomFor, HasNoRoomFor, HasNoneAbove,
 
 use dag_net::{Answer, Net, Numbers, Range, Ranges};
 use greedy_paths::units_on;
-use lower_flow::{FlowOrCut, bounded_flow};
+use lower_flow::{FlowOrCut, bounded_flow_near};
 use std::alloc::{AllocError, Global};
 
 /// A flow within the ranges that is at least the units of the booked paths on each edge, if there is one.
@@ -47,20 +47,41 @@ pub fn flow_above(
     requires numbers { length least.now ≡ edge_count net.now }
     ensures { IfOk result (λ found. MatchOption found (HasNoneAbove net.now ranges.now least.now) (IsFlowAbove net.now ranges.now least.now)) }
 {
+    flow_above_near(alloc, net, ranges, least, &[])
+}
+
+/// The same, where a flow is known that is perhaps not far from one.
+pub fn flow_above_near(
+    alloc: Global,
+    net: &Net,
+    ranges: &Ranges,
+    least: &[u64],
+    near: &[u64],
+) -> Result<Option<Numbers>, AllocError>
+    requires one_each { length ranges.now ≡ edge_count net.now }
+    requires bounded { IsTrue (list_all (λ r. nat_le r.lo r.hi && nat_le r.hi 1000000000000) ranges.now) }
+    requires numbers { length least.now ≡ edge_count net.now }
+    ensures { IfOk result (λ found. MatchOption found (HasNoneAbove net.now ranges.now least.now) (IsFlowAbove net.now ranges.now least.now)) }
+{
     match raised_by(alloc, ranges, least)? {
-        Some(raised) => flow_within(alloc, net, raised.as_slice()),
+        Some(raised) => flow_within(alloc, net, raised.as_slice(), near),
         None => Ok(None),
     }
 }
 
-/// A flow within ranges, if there is one.
-fn flow_within(alloc: Global, net: &Net, ranges: &[Range]) -> Result<Option<Numbers>, AllocError>
+/// A flow within ranges, if there is one, from numbers that are perhaps not far from it.
+fn flow_within(
+    alloc: Global,
+    net: &Net,
+    ranges: &[Range],
+    near: &[u64],
+) -> Result<Option<Numbers>, AllocError>
     requires one_each { length ranges.now ≡ edge_count net.now }
     requires bounded { IsTrue (list_all (λ r. nat_le r.lo r.hi && nat_le r.hi 1000000000000) ranges.now) }
     ensures { IfOk result (λ found. MatchOption found (NothingIsWithin (ranged net.now ranges.now)) (IsFlowIn net.now ranges.now)) }
 {
     prove!(net.edges() <= 4096);
-    match bounded_flow(alloc, net, ranges)? {
+    match bounded_flow_near(alloc, net, ranges, near)? {
         FlowOrCut::Flow(flow) => Ok(Some(flow)),
         _ => Ok(None),
     }

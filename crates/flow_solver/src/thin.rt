@@ -2,7 +2,7 @@
 //!
 //! 1. The booked units are settled first: from then on each edge keeps what is settled on it.
 //! 2. The widest path of what the flow has over that is taken. If some flow has on it all that the upper bounds leave, this flow goes on and so much is settled
-//!    along the path; otherwise the width of the path is.
+//!    along the path; otherwise the width of the path is. The search for such a flow begins near the flow that stands.
 //! 3. This ends when each lower bound is settled, when no path is left, or after so many steps.
 //! 4. A flow that is at least what is settled, with as little more as the ranges ask for, is the answer.
 ghost use Rattle.std.specs.Prelude.{◌≡◌, ◌↔◌, ◌+◌, ◌≤◌, ◌<◌, ◌^◌, ◌==◌, ◌&&◌, nat_le, length, slice_index, All, IfOk, IsTrue};
@@ -12,7 +12,8 @@ ghost use Rattle.decomposition.specs.Graph.{IsPath, edge_count};
 ghost use Rattle.flow_solver.specs.Asked.{most_rules};
 ghost use Rattle.flow_solver.specs.Room.{AreReached, AreAtMost, FitsAlong, HasRoomFor, IsAddedAlong, IsLeftOf, IsSettling};
 
-use crate::room::flow_above;
+use crate::carried::carried_along;
+use crate::room::{flow_above, flow_above_near};
 use dag_net::{Answer, Ids, Net, Numbers, Ranges};
 use greedy_paths::{add_along, units_on, widest_path};
 use std::alloc::{AllocError, Global};
@@ -124,7 +125,9 @@ fn settle_along(
     let Settling { flow, settled } = settling;
     let room = room_along(ranges, &settled, path.as_slice());
     let wide = with_path(alloc, net, &settled, path.as_slice(), room)?;
-    if let Some(wide_flow) = flow_above(alloc, net, ranges, &wide)? {
+    let more = room.saturating_sub(width);
+    let near = carried_along(alloc, net, ranges, &wide, &flow, path, more)?;
+    if let Some(wide_flow) = flow_above_near(alloc, net, ranges, &wide, &near)? {
         return Ok(Settling {
             flow: wide_flow,
             settled: wide,
@@ -149,8 +152,8 @@ fn room_along(ranges: &Ranges, settled: &[u64], path: &[u32]) -> u64
     room
 }
 
-/// What is settled, and more along a path.
-fn with_path(
+/// The same numbers, and more along a path.
+pub fn with_path(
     alloc: Global,
     net: &Net,
     settled: &[u64],

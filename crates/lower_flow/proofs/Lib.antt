@@ -4,3 +4,4 @@ pub mod Sending
 pub mod Crossing
 pub mod Marked
 pub mod Cleared
+pub mod Brought

@@ -6,6 +6,7 @@ use Rattle.decomposition.specs.declared.Side.TheVariants.{Entering, Leaving}
 use Rattle.decomposition.specs.Graph.{Graph, edge_count, tail, head, is_inner}
 use Rattle.decomposition.specs.Answer.{sum_below}
 use Rattle.decomposition.specs.Instance.{range_at}
+use Rattle.lower_flow.specs.Limits.{most_wide_units}
 
 -- the end from which a surplus goes over an edge that takes more flow: the tail where too much enters, the head where too much leaves
 abbrev pub near : Graph → Side → ℕ → ℕ
@@ -48,7 +49,7 @@ pub record IsRanged (g : Graph) (ranges : List Range) (flow : List ℕ) : Type 0
   pub one_each : length flow ≡ edge_count g
   pub low : (e : ℕ) → e < edge_count g → (range_at ranges e).lo ≤ slice_index flow e
   pub high : (e : ℕ) → e < edge_count g → slice_index flow e ≤ (range_at ranges e).hi
-  pub small : (e : ℕ) → e < edge_count g → (range_at ranges e).hi ≤ 1000000000000
+  pub small : (e : ℕ) → e < edge_count g → (range_at ranges e).hi ≤ most_wide_units
 
 -- the ends of the edges, how much more and how much less each may have, and what the vertices have too much and take up
 pub record Residual : Type 0 where

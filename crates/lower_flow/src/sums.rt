@@ -2,6 +2,7 @@
 
 ghost use Rattle.std.specs.Prelude.{◌≡◌, ◌-◌, ◌<◌, ◌≤◌, ℕ, if◌then◌else◌, length, vec_len, slice_index, IfOk};
 ghost use Rattle.decomposition.specs.Graph.{edge_count, is_inner};
+ghost use Rattle.lower_flow.specs.Limits.{most_wide_units};
 ghost use Rattle.lower_flow.specs.Residual.{near, far, AreSumsAt};
 
 use crate::ends::{far, near};
@@ -27,7 +28,7 @@ fn is_inner(net: &Net, v: u32) -> bool
 /// Sums up the flow at the ends of each edge.
 pub fn sum_flow(alloc: Global, net: &Net, flow: &[u64], side: Side) -> Result<Sums, AllocError>
     requires one_each { length flow.now ≡ edge_count net.now }
-    requires small { (e : ℕ) → e < edge_count net.now → slice_index flow.now e ≤ 1000000000000 }
+    requires small { (e : ℕ) → e < edge_count net.now → slice_index flow.now e ≤ most_wide_units }
     ensures far { IfOk result (λ sums. AreSumsAt net.now (far net.now side) (slice_index flow.now) sums.far.items) }
     ensures near { IfOk result (λ sums. AreSumsAt net.now (near net.now side) (slice_index flow.now) sums.near.items) }
 {

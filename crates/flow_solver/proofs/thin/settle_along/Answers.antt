@@ -15,5 +15,5 @@ pub returns-clause-settling : goal.returns-clause-settling
 returns-clause-settling c =
     settling-more c.args.net.now c.args.ranges.now c.args.settling (record { flow = c.args.settling.flow; settled = c.in_ok-settled.settled }) c.args.path.now c.args.width refl c.requires.settling
     (subst (λ (path : List ℕ). IsAddedAlong c.args.settling.settled.items path c.args.width c.in_ok-settled.settled.items) c.as_slice-3.ensures
-    (subst (λ (settled : List ℕ). IsAddedAlong settled c.as_slice-3.result.now c.args.width c.in_ok-settled.settled.items) c.deref-4.ensures.value c.in_ok-settled.ensures))
+    (subst (λ (settled : List ℕ). IsAddedAlong settled c.as_slice-3.result.now c.args.width c.in_ok-settled.settled.items) c.deref-6.ensures.value c.in_ok-settled.ensures))
     c.requires.width

@@ -3,7 +3,7 @@ use Rattle.std.proofs.Common.{sym, subst}
 use Rattle.std.specs.Prelude.{MatchOption}
 use Rattle.flow_solver.specs.Room.{AreRaised, IsPassed}
 use Rattle.flow_solver.proofs.Raising.{above_if_ok, passed-none, raised-bounded}
-use Rattle.flow_solver.proofs.room.flow_above.Goals as goal
+use Rattle.flow_solver.proofs.room.flow_above_near.Goals as goal
 
 pub flow_within-requires-clause-bounded : goal.flow_within-requires-clause-bounded
 flow_within-requires-clause-bounded c =

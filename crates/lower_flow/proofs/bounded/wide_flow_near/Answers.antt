@@ -7,7 +7,7 @@ use Rattle.decomposition.specs.Instance.{IsFlowWithin}
 use Rattle.lower_flow.specs.Residual.{deficit}
 use Rattle.lower_flow.specs.Found.{with_ranges}
 use Rattle.lower_flow.proofs.Balances.{IsFlowWithin-cleared}
-use Rattle.lower_flow.proofs.bounded.bounded_flow.Goals as goal
+use Rattle.lower_flow.proofs.bounded.wide_flow_near.Goals as goal
 
 pub returns : goal.returns
 returns c =
