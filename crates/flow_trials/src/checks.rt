@@ -9,7 +9,7 @@ use std::alloc::{AllocError, Global};
 use std::test::Fail;
 
 /// The names of the two inputs.
-const NAMES: [&str; 2] = ["x.graph", "x.report"];
+pub const NAMES: [&str; 2] = ["x.graph", "x.report"];
 
 /// The room of an output that holds every line of a trial.
 const ROOM: usize = 4096;
@@ -110,7 +110,7 @@ struct Checked {
 }
 
 /// The two inputs, which come in pieces of so many bytes.
-fn inputs_of(
+pub fn inputs_of(
     alloc: Global,
     graph: &str,
     report: &str,
@@ -123,7 +123,7 @@ fn inputs_of(
 }
 
 /// Runs the checker on these words and inputs.
-fn check(
+pub fn check(
     alloc: Global,
     words: &[&str],
     inputs: &mut MemInputs,

@@ -11,6 +11,8 @@ mod free;
 #[cfg(test)]
 mod generated;
 #[cfg(test)]
+mod large;
+#[cfg(test)]
 mod refused;
 #[cfg(test)]
 mod rows;

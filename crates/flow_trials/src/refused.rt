@@ -76,13 +76,13 @@ fn limits(rt: HostRuntime) -> Result<(), Fail> {
         long.push(' ')?;
     }
     long.push_str("t 1\n")?;
-    let star = numbered(alloc, "# x\n0\n", ("s v", " 0"), 258, "")?;
-    let crowd = numbered(alloc, "# x\n", ("#S s v", ""), 34, "2\ns t 1\n")?;
-    let again = numbered(alloc, "# x\n", ("#S s v", ""), 33, "#S s v1\n2\ns t 1\n")?;
+    let star = numbered(alloc, "# x\n0\n", ("s v", " 0"), 4_098, "")?;
+    let crowd = numbered(alloc, "# x\n", ("#S s v", ""), 258, "2\ns t 1\n")?;
+    let again = numbered(alloc, "# x\n", ("#S s v", ""), 257, "#S s v1\n2\ns t 1\n")?;
     let rows = [
         (long, "3 LongLine"),
-        (star, "259 TooManyEdges"),
-        (crowd, "34 TooManyConstraints"),
+        (star, "4099 TooManyEdges"),
+        (crowd, "258 TooManyConstraints"),
         (again, "2 UnknownEdge"),
     ];
     for (input, refusal) in &rows {
