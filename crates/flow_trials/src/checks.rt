@@ -103,9 +103,9 @@ const CHECKS: [(&str, &str, &str, Status); 16] = [
 
 /// What a check answered and wrote.
 #[derive(Drop)]
-struct Checked {
-    status: Status,
-    out: MemOutput,
+pub struct Checked {
+    pub status: Status,
+    pub out: MemOutput,
     notes: MemOutput,
 }
 
