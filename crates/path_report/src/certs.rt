@@ -10,7 +10,7 @@ use crate::digits::Digits;
 use crate::page::Page;
 use report_terms::Cert;
 use crate::trails::{put_place, put_trail};
-use report_reading::word_of_side;
+use report_reading::words::word_of_side;
 use decomposition::Side;
 use flow_io::{Fault, Output};
 use graph_text::Labels;

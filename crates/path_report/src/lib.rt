@@ -1,4 +1,4 @@
-//! Reports and their text: the writer, and what it stands on.
+//! The writer of reports, which passes on their data and their reader.
 #![tactic(auto)]
 
 mod certs;

@@ -10,7 +10,7 @@ use crate::page::Page;
 use crate::paths::{put_paths, put_safe};
 use report_terms::{Mark, Solved};
 use crate::trails::put_trail_if_any;
-use report_reading::word_of;
+use report_reading::words::word_of;
 use flow_io::{Fault, Output};
 use graph_text::Labels;
 

@@ -8,7 +8,7 @@ use crate::digits::Digits;
 use crate::page::Page;
 use report_terms::{Body, Report};
 use crate::solved::put_solved;
-use report_reading::name_of;
+use report_reading::words::name_of;
 use dag_net::Mode;
 use flow_io::{Fault, Output};
 use graph_text::Labels;

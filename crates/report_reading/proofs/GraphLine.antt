@@ -16,14 +16,14 @@ use Rattle.report_reading.proofs.Spelled.{number-spelled}
 use Rattle.report_reading.proofs.LineTexts.{on-ok, counts}
 
 -- the line of a block that has a name
-named : (index : ℕ) (name : List ℕ) → (length name == 0) ≡ false → line (codes "graph" ∷ decimal index ∷ name ∷ []) ≡ graph_line index name
-named index [] some = absurd (cc)
-named index (b ∷ name) some = refl
+line-named : (index : ℕ) (name : List ℕ) → (length name == 0) ≡ false → line (codes "graph" ∷ decimal index ∷ name ∷ []) ≡ graph_line index name
+line-named index [] some = absurd (cc)
+line-named index (b ∷ name) some = refl
 
 pub graph_line-named : (index : ℕ) (digits given name : List ℕ) → digits ≡ decimal index → given ≡ name → (length given == 0) ≡ false →
     line (codes "graph" ∷ digits ∷ given ∷ []) ≡ graph_line index name
 graph_line-named index digits given name d n some =
-    ap (λ x. line (codes "graph" ∷ x ∷ given ∷ [])) d ∙ named index given some ∙ ap (graph_line index) n
+    ap (λ x. line (codes "graph" ∷ x ∷ given ∷ [])) d ∙ line-named index given some ∙ ap (graph_line index) n
 
 abbrev pub is_space : ℕ → Bool
 is_space b = b == 32

@@ -15,8 +15,7 @@ mod read_fault;
 mod reader;
 mod steps;
 mod trail_lines;
-mod words;
+pub mod words;
 
 pub use read_fault::{ReadFault, ReadRefusal, ReadWhy};
 pub use reader::read_report;
-pub use words::{name_of, word_of, word_of_side};
