@@ -13,13 +13,13 @@ use Rattle.decomposition.proofs.Root.{trees_bound}
 use Rattle.decomposition.proofs.FewPaths.{trees_refute_all}
 use Rattle.decomposition.proofs.Cuts.{cuts_refute}
 use Rattle.decomposition.proofs.Crowds.{crowds_refute}
-use Rattle.path_report.specs.declared.report.Mark.{Mark}
-use Rattle.path_report.specs.declared.report.Mark.TheVariants.{Optimal, Infeasible, Bounds}
-use Rattle.path_report.specs.declared.report.Cert.{Cert}
-use Rattle.path_report.specs.declared.report.Cert.TheVariants.{Zero, Wide, Tree, Cut, Crowd}
-use Rattle.path_report.specs.declared.report.Solved.{Solved}
-use Rattle.path_report.specs.declared.report.Body.{Body}
-use Rattle.path_report.specs.declared.report.Body.TheVariants.{Refused, Solved as SolvedBody}
+use Rattle.report_terms.specs.declared.report.Mark.{Mark}
+use Rattle.report_terms.specs.declared.report.Mark.TheVariants.{Optimal, Infeasible, Bounds}
+use Rattle.report_terms.specs.declared.report.Cert.{Cert}
+use Rattle.report_terms.specs.declared.report.Cert.TheVariants.{Zero, Wide, Tree, Cut, Crowd}
+use Rattle.report_terms.specs.declared.report.Solved.{Solved}
+use Rattle.report_terms.specs.declared.report.Body.{Body}
+use Rattle.report_terms.specs.declared.report.Body.TheVariants.{Refused, Solved as SolvedBody}
 use Rattle.cert_check.specs.Accepted.{MarkFits, PathsFit, CountsPaths, ShowsBound, ShowsNone, CertFits, SafeFits}
 use Rattle.cert_check.specs.Verdict.{IsAcceptedSolved, IsAcceptedBody}
 use Rattle.cert_check.specs.Verdict.Line.{MarkLine, UpperLine, CertLine, SafeLine}

@@ -3,10 +3,10 @@ use Rattle.std.proofs.Common.{◌≡◌, ℕ, refl, sym, subst, inl, inr}
 use Rattle.std.specs.Prelude.{◌↔◌}
 use Rattle.decomposition.specs.declared.Mode.{Mode}
 use Rattle.decomposition.specs.Instance.{Instance}
-use Rattle.path_report.specs.declared.report.Solved.{Solved}
-use Rattle.path_report.specs.declared.report.Body.{Body}
-use Rattle.path_report.specs.declared.report.Body.TheVariants.{Refused, Solved as SolvedBody}
-use Rattle.path_report.specs.declared.report.Report.{Report}
+use Rattle.report_terms.specs.declared.report.Solved.{Solved}
+use Rattle.report_terms.specs.declared.report.Body.{Body}
+use Rattle.report_terms.specs.declared.report.Body.TheVariants.{Refused, Solved as SolvedBody}
+use Rattle.report_terms.specs.declared.report.Report.{Report}
 use Rattle.cert_check.specs.declared.report.Verdict.{Verdict}
 use Rattle.cert_check.specs.declared.report.Verdict.TheVariants.{Yes, No}
 use Rattle.cert_check.specs.Verdict.{IsSolvedVerdict, IsAcceptedBody, BodyFailsAt, IsAccepted, FailsAt, IsVerdictOn}

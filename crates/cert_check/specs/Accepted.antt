@@ -8,11 +8,11 @@ use Rattle.decomposition.specs.Width.{IsAntichain}
 use Rattle.decomposition.specs.Tokens.{IsTrail}
 use Rattle.decomposition.specs.Certificates.{IsCut, IsCrowd, decision_below, decision_at_all, IsBoundingTree, IsInfeasibleTree}
 use Rattle.decomposition.specs.SafeRuns.{IsSafe, AreMaximal}
-use Rattle.path_report.specs.declared.report.Mark.{Mark}
-use Rattle.path_report.specs.declared.report.Mark.TheVariants.{Optimal, Infeasible, Bounds}
-use Rattle.path_report.specs.declared.report.Cert.{Cert}
-use Rattle.path_report.specs.declared.report.Cert.TheVariants.{Zero, Wide, Tree, Cut, Crowd}
-use Rattle.path_report.specs.declared.report.Trail.{Trail}
+use Rattle.report_terms.specs.declared.report.Mark.{Mark}
+use Rattle.report_terms.specs.declared.report.Mark.TheVariants.{Optimal, Infeasible, Bounds}
+use Rattle.report_terms.specs.declared.report.Cert.{Cert}
+use Rattle.report_terms.specs.declared.report.Cert.TheVariants.{Zero, Wide, Tree, Cut, Crowd}
+use Rattle.report_terms.specs.declared.report.Trail.{Trail}
 
 -- the bounds are those of the mark: equal numbers, none, or a number with none or a larger one above it
 abbrev pub MarkFits : Mark → Option ℕ → Option ℕ → Type 0

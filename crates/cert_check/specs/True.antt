@@ -3,10 +3,10 @@ use Rattle.std.specs.Prelude.{◌≡◌, [], None, IfSome, IsSomeAnd}
 use Rattle.decomposition.specs.declared.Mode.{Mode}
 use Rattle.decomposition.specs.Instance.{Instance, Meets, objective, IsOptimal, IsInfeasible, IsLowerBound}
 use Rattle.decomposition.specs.SafeRuns.{IsSafe, AreMaximal}
-use Rattle.path_report.specs.declared.report.Mark.TheVariants.{Optimal, Infeasible, Bounds}
-use Rattle.path_report.specs.declared.report.Solved.{Solved}
-use Rattle.path_report.specs.declared.report.Body.{Body}
-use Rattle.path_report.specs.declared.report.Body.TheVariants.{Refused, Solved as SolvedBody}
+use Rattle.report_terms.specs.declared.report.Mark.TheVariants.{Optimal, Infeasible, Bounds}
+use Rattle.report_terms.specs.declared.report.Solved.{Solved}
+use Rattle.report_terms.specs.declared.report.Body.{Body}
+use Rattle.report_terms.specs.declared.report.Body.TheVariants.{Refused, Solved as SolvedBody}
 
 -- What was found is true: paths that are printed meet the model, and the upper bound is their value; those of an optimal report are best;
 -- nothing meets where the mark is infeasible; nothing that meets is below a lower bound; runs that are listed are the maximal safe ones.

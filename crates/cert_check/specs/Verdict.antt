@@ -2,13 +2,13 @@
 use Rattle.std.specs.Prelude.{◌≡◌, ◌≢◌, ◌⊎◌, ℕ, ◌+◌, ◌<◌, ◌≤◌, ◌^◌, length, Option, Some, None}
 use Rattle.decomposition.specs.declared.Mode.{Mode}
 use Rattle.decomposition.specs.Instance.{Instance}
-use Rattle.path_report.specs.declared.report.Cert.{Cert}
-use Rattle.path_report.specs.declared.report.Cert.TheVariants.{Zero, Wide, Tree, Cut, Crowd}
-use Rattle.path_report.specs.declared.report.Trail.{Trail}
-use Rattle.path_report.specs.declared.report.Solved.{Solved}
-use Rattle.path_report.specs.declared.report.Body.{Body}
-use Rattle.path_report.specs.declared.report.Body.TheVariants.{Refused, Solved as SolvedBody}
-use Rattle.path_report.specs.declared.report.Report.{Report}
+use Rattle.report_terms.specs.declared.report.Cert.{Cert}
+use Rattle.report_terms.specs.declared.report.Cert.TheVariants.{Zero, Wide, Tree, Cut, Crowd}
+use Rattle.report_terms.specs.declared.report.Trail.{Trail}
+use Rattle.report_terms.specs.declared.report.Solved.{Solved}
+use Rattle.report_terms.specs.declared.report.Body.{Body}
+use Rattle.report_terms.specs.declared.report.Body.TheVariants.{Refused, Solved as SolvedBody}
+use Rattle.report_terms.specs.declared.report.Report.{Report}
 use Rattle.cert_check.specs.declared.report.Verdict.{Verdict}
 use Rattle.cert_check.specs.declared.report.Verdict.TheVariants.{Yes, No}
 use Rattle.cert_check.specs.Accepted.{MarkFits, PathsFit, CertFits, TrailFits, SafeFits}

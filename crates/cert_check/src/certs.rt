@@ -6,7 +6,7 @@ ghost use Rattle.decomposition.specs.Graph.{edge_count, is_run};
 ghost use Rattle.decomposition.specs.Instance.{greatest_hi, IsInstance};
 ghost use Rattle.decomposition.specs.Tokens.{IsRefutation};
 ghost use Rattle.flow_models.specs.Problem.{instance};
-ghost use Rattle.path_report.specs.declared.report.Cert.TheVariants.{Wide, Tree};
+ghost use Rattle.report_terms.specs.declared.report.Cert.TheVariants.{Wide, Tree};
 ghost use Rattle.cert_check.specs.Accepted.{ShowsBound, ShowsNone};
 ghost use Rattle.cert_check.specs.Verdict.{token_count, Holds};
 ghost use Rattle.cert_check.specs.Verdict.Line.{CertLine};
@@ -18,7 +18,7 @@ use crate::tree::check_tree;
 use crate::wide::check_wide;
 use dag_net::{Mode, Net};
 use flow_models::Problem;
-use path_report::{Cert, Mark, Solved, Trail};
+use report_terms::{Cert, Mark, Solved, Trail};
 use std::alloc::{AllocError, Global};
 
 /// Whether the tokens refute the decision.

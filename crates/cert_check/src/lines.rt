@@ -4,7 +4,7 @@ ghost use Rattle.std.specs.Prelude.{◌≡◌, ◌+◌, ◌≤◌, ◌<◌, ◌^
 ghost use Rattle.cert_check.specs.Verdict.{item_count, trail_lines, place_of, IsShort};
 ghost use Rattle.cert_check.specs.Verdict.Line.{CertLine, TrailLine, SafeLine};
 
-use path_report::{Cert, Solved, Trail};
+use report_terms::{Cert, Solved, Trail};
 
 /// How many lines stand below the line of a certificate: fewer than 2^63, as in every list in memory.
 fn item_count(cert: &Cert) -> u64

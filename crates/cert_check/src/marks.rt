@@ -3,7 +3,7 @@
 ghost use Rattle.std.specs.Prelude.{◌↔◌, IsTrue};
 ghost use Rattle.cert_check.specs.Accepted.{MarkFits};
 
-use path_report::Mark;
+use report_terms::Mark;
 
 /// Whether the bounds are those of the mark: equal numbers, none, or a number with none or a larger one above it.
 pub fn mark_fits(mark: Mark, lower: Option<u64>, upper: Option<u64>) -> bool

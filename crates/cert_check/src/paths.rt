@@ -9,7 +9,7 @@ ghost use Rattle.cert_check.specs.Verdict.Line.{UpperLine};
 
 use dag_net::{Answer, Mode, Net};
 use flow_models::{Problem, meets, objective};
-use path_report::Solved;
+use report_terms::Solved;
 use std::alloc::{AllocError, Global};
 use std::collections::BTreeSet;
 

@@ -15,7 +15,7 @@ use crate::safe_runs::safe_fits;
 use crate::trails::trail_fits;
 use dag_net::{Mode, Net};
 use flow_models::Problem;
-use path_report::{Body, Report, Solved};
+use report_terms::{Body, Report, Solved};
 use std::alloc::{AllocError, Global};
 
 /// What a report is for a problem of a model.

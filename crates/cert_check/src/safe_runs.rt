@@ -13,7 +13,7 @@ ghost use Rattle.cert_check.specs.Verdict.Line.{SafeLine};
 use dag_net::{Answer, IdLists, Mode, Net, Ranges};
 use flow_models::Problem;
 use greedy_paths::{GreedyFault, decompose};
-use path_report::Solved;
+use report_terms::Solved;
 use safe_paths::maximal_safe;
 use std::alloc::{AllocError, Global};
 

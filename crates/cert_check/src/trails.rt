@@ -15,7 +15,7 @@ use crate::tree::check_tree;
 use dag_net::{Mode, Net};
 use decomposition::Decision;
 use flow_models::Problem;
-use path_report::{Mark, Solved, Trail};
+use report_terms::{Mark, Solved, Trail};
 use std::alloc::{AllocError, Global};
 
 /// Whether the limit is at least the lower bound, if there is one, and below the upper bound.

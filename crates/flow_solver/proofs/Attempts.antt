@@ -15,8 +15,8 @@ use Rattle.decomposition.proofs.FewPaths.{error-same}
 use Rattle.decomposition.proofs.FirstAnswers.{merged_least}
 use Rattle.decomposition.proofs.Merging.{Covers-same_paths, IsAnswer-same_paths, weight_on-where}
 use Rattle.decomposition.proofs.Root.{all-place}
-use Rattle.path_report.specs.Laws.{IsSmall, IsSmallToken, IsSmallTrail}
-use Rattle.path_report.specs.declared.report.Trail.{Trail}
+use Rattle.report_terms.specs.NetFacts.{IsSmall, IsSmallToken, IsSmallTrail}
+use Rattle.report_terms.specs.declared.report.Trail.{Trail}
 use Rattle.flow_solver.specs.Searched.{IsFoundFor, IsRefutedBy, IsSpentBy}
 use Rattle.flow_solver.proofs.Bounded.{cap_small}
 use Rattle.flow_solver.proofs.PathsOnce.{paths_once}

@@ -8,12 +8,12 @@ use Rattle.decomposition.specs.Instance.{Instance, IsInstance, IsLowerBound, IsO
 use Rattle.decomposition.specs.Width.{IsWidth, IsAntichain}
 use Rattle.decomposition.specs.Certificates.{IsBoundingTree, decision_below, decision_at_all}
 use Rattle.decomposition.proofs.Antichains.{antichains_bound}
-use Rattle.path_report.specs.declared.report.Cert.{Cert}
-use Rattle.path_report.specs.declared.report.Cert.TheVariants.{Zero, Wide, Tree, Cut, Crowd}
-use Rattle.path_report.specs.declared.report.Mark.{Mark}
-use Rattle.path_report.specs.declared.report.Mark.TheVariants.{Optimal, Infeasible, Bounds}
-use Rattle.path_report.specs.declared.report.Solved.{Solved}
-use Rattle.path_report.specs.declared.report.Trail.{Trail}
+use Rattle.report_terms.specs.declared.report.Cert.{Cert}
+use Rattle.report_terms.specs.declared.report.Cert.TheVariants.{Zero, Wide, Tree, Cut, Crowd}
+use Rattle.report_terms.specs.declared.report.Mark.{Mark}
+use Rattle.report_terms.specs.declared.report.Mark.TheVariants.{Optimal, Infeasible, Bounds}
+use Rattle.report_terms.specs.declared.report.Solved.{Solved}
+use Rattle.report_terms.specs.declared.report.Trail.{Trail}
 use Rattle.flow_solver.specs.Booking.{IsAtMostFirst, IsKnownWhereBookedFit}
 use Rattle.flow_solver.specs.declared.asked.Asked.{Asked}
 use Rattle.flow_solver.specs.Right.{ArePathsFor, AreListed, CountsPaths, HasCrowdWhereFound, HasCutWhereDue, HasEachPathOnce, HasRanges, IsAtLeastWidth, IsCertFor, IsMarked, IsTrailFor, NothingIsWithin, SolvedRight, decision_between, is_cut}

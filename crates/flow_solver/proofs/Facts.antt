@@ -5,7 +5,7 @@ use Rattle.decomposition.specs.declared.Mode.{Mode}
 use Rattle.decomposition.specs.declared.Mode.TheVariants.{Exact}
 use Rattle.decomposition.specs.Instance.{Instance, IsInstance}
 use Rattle.decomposition.specs.Width.{IsAntichain, IsWidth}
-use Rattle.path_report.specs.Laws.{AreRisingEdges}
+use Rattle.report_terms.specs.NetFacts.{AreRisingEdges}
 use Rattle.flow_solver.specs.declared.counting.Finding.{Finding}
 use Rattle.flow_solver.specs.Firsts.{IsBeginning}
 use Rattle.flow_solver.specs.declared.asked.Asked.{Asked}

@@ -11,9 +11,9 @@ use Rattle.decomposition.specs.Instance.{Instance, IsInstance, IsLowerBound, Mee
 use Rattle.decomposition.specs.Tokens.{IsRefutation}
 use Rattle.decomposition.specs.Width.{IsAntichain, IsWidth}
 use Rattle.decomposition.proofs.Root.{refutations_refute}
-use Rattle.path_report.specs.declared.report.Cert.{Cert}
-use Rattle.path_report.specs.declared.report.Cert.TheVariants.{Tree}
-use Rattle.path_report.specs.declared.report.Trail.{Trail}
+use Rattle.report_terms.specs.declared.report.Cert.{Cert}
+use Rattle.report_terms.specs.declared.report.Cert.TheVariants.{Tree}
+use Rattle.report_terms.specs.declared.report.Trail.{Trail}
 use Rattle.flow_solver.specs.Right.{IsCertFor}
 use Rattle.flow_solver.specs.Searched.{IsKnown, IsRaised, IsRaisedWithin, IsRefutedAlone, IsRefutedBy, floor_of}
 use Rattle.flow_solver.proofs.CountedRight.{one_width, width_bounds}

@@ -14,9 +14,9 @@ use Rattle.decomposition.specs.Tokens.{IsRefutation}
 use Rattle.decomposition.proofs.Root.{trees_bound}
 use Rattle.greedy_paths.specs.Booking.{AreBooked}
 use Rattle.greedy_paths.specs.Laws.{BookedPathsAreOneList}
-use Rattle.path_report.specs.declared.report.Cert.{Cert}
-use Rattle.path_report.specs.declared.report.Cert.TheVariants.{Zero, Tree}
-use Rattle.path_report.specs.declared.report.Trail.{Trail}
+use Rattle.report_terms.specs.declared.report.Cert.{Cert}
+use Rattle.report_terms.specs.declared.report.Cert.TheVariants.{Zero, Tree}
+use Rattle.report_terms.specs.declared.report.Trail.{Trail}
 use Rattle.flow_solver.specs.Booking.{AreBookedFor, upper_bound}
 use Rattle.flow_solver.specs.declared.searching.Attempt.{Attempt}
 use Rattle.flow_solver.specs.declared.searching.Attempt.TheVariants.{Found, Refuted, Spent}

@@ -3,9 +3,9 @@ use Rattle.std.proofs.Common.{◌≡◌, ℕ, [], None, false, refl, sym, subst}
 use Rattle.decomposition.specs.declared.Mode.TheVariants.{Abs}
 use Rattle.decomposition.specs.Instance.{Instance, IsInstance}
 use Rattle.decomposition.proofs.FewPaths.{trees_refute_all}
-use Rattle.path_report.specs.declared.report.Cert.TheVariants.{Tree}
-use Rattle.path_report.specs.declared.report.Mark.TheVariants.{Infeasible}
-use Rattle.path_report.specs.declared.report.Trail.{Trail}
+use Rattle.report_terms.specs.declared.report.Cert.TheVariants.{Tree}
+use Rattle.report_terms.specs.declared.report.Mark.TheVariants.{Infeasible}
+use Rattle.report_terms.specs.declared.report.Trail.{Trail}
 use Rattle.flow_solver.specs.declared.searching.Attempt.TheVariants.{Refuted}
 use Rattle.flow_solver.specs.declared.asked.Asked.{Asked}
 use Rattle.flow_solver.specs.Right.{SolvedRight}

@@ -5,7 +5,7 @@ use Rattle.std.proofs.Math.ListN.{get_or-append}
 use Rattle.std.proofs.Math.Seq.{get_or-append_seam}
 use Rattle.std.proofs.lemmas.Bool.{and_from, and_parts, cases_eq}
 use Rattle.decomposition.specs.Answer.{is_ordered}
-use Rattle.path_report.specs.Laws.{AreRisingRules}
+use Rattle.report_terms.specs.NetFacts.{AreRisingRules}
 use Rattle.flow_solver.specs.Crowds.{RisesBelow}
 
 rising-push : (xs : List ℕ) (n : ℕ) → is_ordered nat_lt xs ≡ true → All (λ x. x < n) xs → is_ordered nat_lt (xs ++ n ∷ []) ≡ true

@@ -6,7 +6,7 @@ use Rattle.decomposition.specs.declared.Mode.TheVariants.{Exact}
 use Rattle.decomposition.specs.Graph.{Graph}
 use Rattle.decomposition.specs.Instance.{Instance, IsInstance}
 use Rattle.decomposition.specs.SafeRuns.{IsSafe, IsSafeFor, AreMaximal}
-use Rattle.path_report.specs.Laws.{AreRisingRuns}
+use Rattle.report_terms.specs.NetFacts.{AreRisingRuns}
 use Rattle.cert_check.proofs.Lows.{lows, lows_maximal}
 
 -- the runs that are listed, if they are

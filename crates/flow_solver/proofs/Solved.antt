@@ -17,12 +17,12 @@ use Rattle.decomposition.proofs.Cuts.{cuts_refute}
 use Rattle.decomposition.proofs.Excess.{error-from_decomposes}
 use Rattle.decomposition.proofs.FewPaths.{flows_decompose, trees_refute_all}
 use Rattle.decomposition.proofs.Root.{all-place, trees_bound}
-use Rattle.path_report.specs.Laws.{AreRisingRuns, HasTrail, IsCertOf, IsEntryOf, IsFoundIn, IsSmall, IsSmallTrail}
-use Rattle.path_report.specs.declared.report.Cert.{Cert}
-use Rattle.path_report.specs.declared.report.Cert.TheVariants.{Tree, Cut, Crowd}
-use Rattle.path_report.specs.declared.report.Mark.{Mark}
-use Rattle.path_report.specs.declared.report.Mark.TheVariants.{Optimal, Infeasible, Bounds}
-use Rattle.path_report.specs.declared.report.Trail.{Trail}
+use Rattle.report_terms.specs.NetFacts.{AreRisingRuns, HasTrail, IsCertOf, IsEntryOf, IsFoundIn, IsSmall, IsSmallTrail}
+use Rattle.report_terms.specs.declared.report.Cert.{Cert}
+use Rattle.report_terms.specs.declared.report.Cert.TheVariants.{Tree, Cut, Crowd}
+use Rattle.report_terms.specs.declared.report.Mark.{Mark}
+use Rattle.report_terms.specs.declared.report.Mark.TheVariants.{Optimal, Infeasible, Bounds}
+use Rattle.report_terms.specs.declared.report.Trail.{Trail}
 use Rattle.flow_solver.specs.declared.counting.Ending.TheVariants.{Width, Refuted, Spent}
 use Rattle.flow_solver.specs.declared.counting.Finding.TheVariants.{Known, Crowded, Never, Open}
 use Rattle.flow_solver.specs.Booking.{IsAtMostFirst}

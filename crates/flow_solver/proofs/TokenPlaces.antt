@@ -9,7 +9,7 @@ use Rattle.decomposition.specs.Instance.{Instance}
 use Rattle.decomposition.specs.Boxes.{Slot, root_box}
 use Rattle.decomposition.specs.Tokens.{is_legal, after_token, after_tokens, boxes_left}
 use Rattle.decomposition.proofs.Open.{AllReached, reach_token, root_reached}
-use Rattle.path_report.specs.Laws.{IsSmallToken}
+use Rattle.report_terms.specs.NetFacts.{IsSmallToken}
 
 -- a legal token
 legal_small : (i : Instance) (n : ℕ) (limit : Option ℕ) (b : List Slot) (t : Token) → n < 2 ^ 32 → length i.rules < 2 ^ 32 → length b ≡ n → is_legal i limit b t ≡ true → IsSmallToken t

@@ -6,7 +6,7 @@ use Rattle.std.proofs.Math.ListN.{get_or-map}
 use Rattle.std.proofs.lemmas.Bool.{and_parts}
 use Rattle.decomposition.proofs.Root.{all-place}
 use Rattle.decomposition.specs.Answer.{is_ordered}
-use Rattle.path_report.specs.Laws.{AreRisingEdges}
+use Rattle.report_terms.specs.NetFacts.{AreRisingEdges}
 use Rattle.decomposition.specs.declared.Range.{Range}
 use Rattle.decomposition.specs.Graph.{Graph, edge_count}
 use Rattle.decomposition.specs.Instance.{range_at}

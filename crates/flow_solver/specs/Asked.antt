@@ -3,7 +3,7 @@ use Rattle.std.specs.Prelude.{◌≡◌, ℕ, ◌≤◌, true, length, IsTrue}
 use Rattle.decomposition.specs.declared.Mode.TheVariants.{Exact}
 use Rattle.decomposition.specs.Instance.{greatest_hi}
 use Rattle.flow_models.specs.declared.problem.Problem.{Problem}
-use Rattle.path_report.specs.ReportText.{is_mode}
+use Rattle.report_terms.specs.NetFacts.{is_mode}
 use Rattle.flow_solver.specs.declared.asked.Asked.{Asked}
 
 -- the largest number of tokens of a search

@@ -9,7 +9,7 @@ use Rattle.decomposition.specs.FirstAnswer.{IsBooked, BookingFits, IsFirstAnswer
 use Rattle.decomposition.specs.Flow.{Decomposes}
 use Rattle.decomposition.specs.Instance.{Instance}
 use Rattle.greedy_paths.specs.Built.{IsLeastFirst, HasNoFirst}
-use Rattle.path_report.specs.Laws.{AreRisingVertices}
+use Rattle.report_terms.specs.NetFacts.{AreRisingVertices}
 use Rattle.flow_solver.specs.Booking.{IsAtMostFirst, IsKnownWhereBookedFit}
 use Rattle.flow_solver.specs.Right.{NothingIsWithin}
 use Rattle.flow_solver.specs.Searched.{IsKnown, AreFewPaths}

@@ -3,9 +3,9 @@ use Rattle.std.specs.Prelude.{◌≡◌, ℕ, ◌+◌, ◌-◌, ◌≤◌, ◌<�
 use Rattle.decomposition.specs.declared.Mode.TheVariants.{Abs}
 use Rattle.decomposition.specs.FirstAnswer.{with_unit}
 use Rattle.decomposition.specs.Instance.{Instance, IsInstance, IsLowerBound, error}
-use Rattle.path_report.specs.Laws.{IsCertOf, IsSmallTrail}
-use Rattle.path_report.specs.declared.report.Cert.{Cert}
-use Rattle.path_report.specs.declared.report.Trail.{Trail}
+use Rattle.report_terms.specs.NetFacts.{IsCertOf, IsSmallTrail}
+use Rattle.report_terms.specs.declared.report.Cert.{Cert}
+use Rattle.report_terms.specs.declared.report.Trail.{Trail}
 use Rattle.flow_solver.specs.Booking.{AreBookedFor}
 use Rattle.flow_solver.specs.Right.{IsCertFor, IsTrailFor}
 use Rattle.flow_solver.specs.Searched.{IsKnown}

@@ -12,12 +12,12 @@ use Rattle.decomposition.specs.SafeRuns.{IsSafe, AreMaximal}
 use Rattle.decomposition.specs.Tokens.{rule_list}
 use Rattle.decomposition.specs.Searches.{EndsSpent}
 use Rattle.decomposition.specs.Certificates.{decision_below, decision_at_all, IsBoundingTree, IsInfeasibleTree, IsCut, IsCrowd}
-use Rattle.path_report.specs.declared.report.Solved.{Solved}
-use Rattle.path_report.specs.declared.report.Mark.{Mark}
-use Rattle.path_report.specs.declared.report.Mark.TheVariants.{Optimal, Infeasible, Bounds}
-use Rattle.path_report.specs.declared.report.Cert.{Cert}
-use Rattle.path_report.specs.declared.report.Cert.TheVariants.{Zero, Wide, Tree, Cut, Crowd}
-use Rattle.path_report.specs.declared.report.Trail.{Trail}
+use Rattle.report_terms.specs.declared.report.Solved.{Solved}
+use Rattle.report_terms.specs.declared.report.Mark.{Mark}
+use Rattle.report_terms.specs.declared.report.Mark.TheVariants.{Optimal, Infeasible, Bounds}
+use Rattle.report_terms.specs.declared.report.Cert.{Cert}
+use Rattle.report_terms.specs.declared.report.Cert.TheVariants.{Zero, Wide, Tree, Cut, Crowd}
+use Rattle.report_terms.specs.declared.report.Trail.{Trail}
 use Rattle.flow_solver.specs.Booking.{IsAtMostFirst, IsKnownWhereBookedFit}
 use Rattle.flow_solver.specs.Crowds.{EachCarriesTaken}
 use Rattle.flow_solver.specs.declared.asked.Asked.{Asked}

@@ -11,8 +11,8 @@ use Rattle.decomposition.specs.Tokens.{rule_list, IsRefutation}
 use Rattle.decomposition.specs.Searches.{EndsSpent}
 use Rattle.decomposition.specs.Certificates.{IsWithin, IsCrowd, decision_below, decision_at_all}
 use Rattle.decomposition.specs.Width.{IsAntichain, IsWidth}
-use Rattle.path_report.specs.Laws.{IsSmallTrail, AreRisingEdges, AreRisingRules}
-use Rattle.path_report.specs.declared.report.Trail.{Trail}
+use Rattle.report_terms.specs.NetFacts.{IsSmallTrail, AreRisingEdges, AreRisingRules}
+use Rattle.report_terms.specs.declared.report.Trail.{Trail}
 use Rattle.flow_solver.specs.Booking.{AreBookedFor, IsAtMostFirst, IsKnownWhereBookedFit}
 use Rattle.flow_solver.specs.Crowds.{EachCarriesTaken}
 use Rattle.flow_solver.specs.Right.{HasEachPathOnce, HasRanges, NothingIsWithin}

@@ -16,7 +16,7 @@ use closer_bounds::Tree;
 use dag_net::{Answer, Net};
 use decomposition::Decision;
 use flow_models::{Problem, error_of};
-use path_report::Trail;
+use report_terms::Trail;
 use std::alloc::{AllocError, Global};
 
 /// Whether no path is heavier than the cap.

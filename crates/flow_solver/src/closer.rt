@@ -11,7 +11,7 @@ use closer_bounds::{Counted, Tree, closer_fewest};
 use dag_net::{Answer, Net};
 use decomposition::Decision;
 use flow_models::Problem;
-use path_report::Trail;
+use report_terms::Trail;
 use std::alloc::{AllocError, Global};
 
 /// An answer of few enough paths, and a refutation of at least as many as the width, where they were found and are right.

@@ -5,15 +5,15 @@ ghost use Rattle.decomposition.specs.declared.Mode.TheVariants.{Interval};
 ghost use Rattle.decomposition.specs.Graph.{Graph};
 ghost use Rattle.decomposition.specs.Instance.{Instance};
 ghost use Rattle.decomposition.specs.Width.{IsAntichain, IsWidth};
-ghost use Rattle.path_report.specs.Laws.{AreRisingEdges, AreRisingRuns, IsCertOf, IsFoundIn, IsSmallTrail};
-ghost use Rattle.path_report.specs.declared.report.Mark.TheVariants.{Infeasible};
+ghost use Rattle.report_terms.specs.NetFacts.{AreRisingEdges, AreRisingRuns, IsCertOf, IsFoundIn, IsSmallTrail};
+ghost use Rattle.report_terms.specs.declared.report.Mark.TheVariants.{Infeasible};
 ghost use Rattle.flow_solver.specs.declared.asked.Asked.{Asked as Given};
 ghost use Rattle.flow_solver.specs.Right.{AreListed, CountsPaths, IsCertFor, SolvedRight, is_cut};
 ghost use Rattle.flow_solver.specs.Searched.{IsRaisedWithin, IsSolvedBy, floor_of};
 
 use crate::counting::{Ending, Finding};
 use dag_net::{Answer, IdLists, Ids};
-use path_report::{Cert, Mark, Solved, Trail};
+use report_terms::{Cert, Mark, Solved, Trail};
 use std::alloc::Global;
 
 /// What is said by an antichain of as many edges as the width and by what the searches found.

@@ -11,7 +11,7 @@ use crate::searching::{Attempt, search_once};
 use dag_net::{Answer, Ids, Net};
 use decomposition::Decision;
 use flow_models::Problem;
-use path_report::Trail;
+use report_terms::Trail;
 use std::alloc::{AllocError, Global};
 
 /// Why no search for fewer paths is made.

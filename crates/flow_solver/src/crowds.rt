@@ -4,7 +4,7 @@ ghost use Rattle.std.specs.List.{list_all};
 ghost use Rattle.decomposition.specs.Certificates.{AreRunsApart, IsCrowd};
 ghost use Rattle.decomposition.specs.Graph.{edge_count, is_run};
 ghost use Rattle.flow_models.specs.Problem.{instance};
-ghost use Rattle.path_report.specs.Laws.{AreRisingRules};
+ghost use Rattle.report_terms.specs.NetFacts.{AreRisingRules};
 ghost use Rattle.flow_solver.specs.Crowds.{AreTakenApart, CarriesTaken, EachCarriesTaken, IsHeldBack};
 
 use cert_check::check_crowd;

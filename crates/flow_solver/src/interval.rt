@@ -8,7 +8,7 @@ ghost use Rattle.decomposition.specs.Graph.{edge_count};
 ghost use Rattle.decomposition.specs.Instance.{IsInstance, greatest_hi};
 ghost use Rattle.flow_models.specs.Problem.{instance};
 ghost use Rattle.greedy_paths.specs.Built.{IsBuiltOn};
-ghost use Rattle.path_report.specs.Laws.{IsFoundIn};
+ghost use Rattle.report_terms.specs.NetFacts.{IsFoundIn};
 ghost use Rattle.flow_solver.specs.Right.{SolvedRight};
 ghost use Rattle.flow_solver.specs.Asked.{MayBeAsked, most_rules};
 ghost use Rattle.flow_solver.specs.Firsts.{IsWithin};
@@ -24,7 +24,7 @@ use decomposition::Side;
 use flow_models::Problem;
 use greedy_paths::{GreedyFault, book, decompose_over};
 use lower_flow::{FlowOrCut, bounded_flow};
-use path_report::{Cert, Solved};
+use report_terms::{Cert, Solved};
 use std::alloc::{AllocError, Global};
 
 /// What lies within the ranges.

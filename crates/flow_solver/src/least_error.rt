@@ -3,7 +3,7 @@ ghost use Rattle.std.specs.Prelude.{◌≡◌, ◌≤◌, ◌<◌, ℕ, false, l
 ghost use Rattle.decomposition.specs.declared.Mode.TheVariants.{Abs};
 ghost use Rattle.decomposition.specs.Instance.{Instance, IsInstance, error, greatest_hi};
 ghost use Rattle.flow_models.specs.Problem.{instance};
-ghost use Rattle.path_report.specs.Laws.{IsFoundIn};
+ghost use Rattle.report_terms.specs.NetFacts.{IsFoundIn};
 ghost use Rattle.flow_solver.specs.declared.asked.Asked.{Asked as Given};
 ghost use Rattle.flow_solver.specs.Asked.{MayBeAsked, MaySearch, most_rules};
 ghost use Rattle.flow_solver.specs.Right.{SolvedRight};
@@ -21,7 +21,7 @@ use dag_net::{Answer, Net};
 use decomposition::Decision;
 use flow_models::{Problem, error_of};
 use greedy_paths::book;
-use path_report::{Cert, Mark, Solved, Trail};
+use report_terms::{Cert, Mark, Solved, Trail};
 use std::alloc::{AllocError, Global};
 
 /// The booked paths and the widest of what they leave first, or any paths that cover, of which there may be k; then

@@ -15,7 +15,7 @@ use crate::counting::{Ending, Finding, count_by_lists, find_fewer};
 use closer_bounds::Counted;
 use dag_net::{Answer, Ids, Net};
 use flow_models::Problem;
-use path_report::Trail;
+use report_terms::Trail;
 use std::alloc::{AllocError, Global};
 
 /// Searches for few paths, from a first answer if there is one; where that is spent, once for closer bounds, and from there again.

@@ -3,7 +3,7 @@ ghost use Rattle.std.specs.Prelude.{◌≡◌, ◌≤◌, ◌<◌, ◌^◌, IfOk
 ghost use Rattle.decomposition.specs.declared.Mode.{Mode as AMode};
 ghost use Rattle.decomposition.specs.Instance.{IsInstance, greatest_hi};
 ghost use Rattle.flow_models.specs.Problem.{instance};
-ghost use Rattle.path_report.specs.Laws.{IsSmall};
+ghost use Rattle.report_terms.specs.NetFacts.{IsSmall};
 ghost use Rattle.flow_solver.specs.Asked.{MaySearch};
 ghost use Rattle.flow_solver.specs.Searched.{AttemptsAs};
 
@@ -11,7 +11,7 @@ use branch_bound::{Outcome, Search};
 use dag_net::{Answer, Net};
 use decomposition::{Decision, Token};
 use flow_models::Problem;
-use path_report::{Tokens, Trail};
+use report_terms::{Tokens, Trail};
 use std::alloc::{AllocError, Global};
 
 /// What one search came to.

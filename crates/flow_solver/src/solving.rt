@@ -2,7 +2,7 @@
 ghost use Rattle.std.specs.Prelude.{◌≡◌, ◌≤◌, length, IfOk};
 ghost use Rattle.decomposition.specs.Instance.{IsInstance, greatest_hi};
 ghost use Rattle.flow_models.specs.Problem.{instance};
-ghost use Rattle.path_report.specs.Laws.{IsFoundIn};
+ghost use Rattle.report_terms.specs.NetFacts.{IsFoundIn};
 ghost use Rattle.flow_solver.specs.Asked.{MayBeAsked, most_rules};
 ghost use Rattle.flow_solver.specs.Right.{SolvedRight};
 
@@ -12,7 +12,7 @@ use crate::interval::solve_interval;
 use crate::least_error::solve_least_error;
 use dag_net::{Mode, Net};
 use flow_models::Problem;
-use path_report::Solved;
+use report_terms::Solved;
 use std::alloc::{AllocError, Global};
 
 /// Solves a problem in the model that is asked for.

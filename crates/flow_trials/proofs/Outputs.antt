@@ -12,10 +12,10 @@ use Rattle.graph_text.specs.Blocks.{TextBlock, blocks}
 use Rattle.graph_text.specs.Reader.{handed}
 use Rattle.graph_text.specs.Reading.{read}
 use Rattle.graph_text.specs.declared.block.RawGraph.{RawGraph}
-use Rattle.graph_text.specs.declared.refusal.Refusal.{Refusal}
-use Rattle.path_report.specs.declared.report.Body.{Body}
-use Rattle.path_report.specs.declared.report.Body.TheVariants.{Refused, Solved as SolvedBody}
-use Rattle.path_report.specs.declared.report.Report.{Report}
+use Rattle.report_terms.specs.declared.refusal.Refusal.{Refusal}
+use Rattle.report_terms.specs.declared.report.Body.{Body}
+use Rattle.report_terms.specs.declared.report.Body.TheVariants.{Refused, Solved as SolvedBody}
+use Rattle.report_terms.specs.declared.report.Report.{Report}
 use Rattle.flow_trials.specs.Answered.{OutputsAreAnsweredYes}
 
 refusal-right : (s : Settings) (refusal : Refusal) (body : Body) → BodyRight s (Err refusal) body → body ≡ Refused refusal

@@ -12,15 +12,15 @@ use Rattle.graph_text.specs.Reader.{handed}
 use Rattle.graph_text.specs.Reading.{read}
 use Rattle.graph_text.specs.declared.block.Block.{Block}
 use Rattle.graph_text.specs.declared.block.RawGraph.{RawGraph}
-use Rattle.graph_text.specs.declared.refusal.Refusal.{Refusal}
+use Rattle.report_terms.specs.declared.refusal.Refusal.{Refusal}
 use Rattle.graph_text.proofs.Accepting.{graphs_are_accepted}
 use Rattle.graph_text.proofs.Naming.{AreLabels-empty}
 use Rattle.graph_text.proofs.TextBlocks.{blocks-each}
-use Rattle.path_report.specs.BadLines.{first_bad_line, IsTextOf}
-use Rattle.path_report.specs.declared.report.Body.{Body}
-use Rattle.path_report.specs.declared.report.Body.TheVariants.{Refused, Solved as SolvedBody}
-use Rattle.path_report.specs.declared.report.Report.{Report}
-use Rattle.path_report.proofs.Complete.{bad_lines_are_of_no_report, texts_are_of_one_report}
+use Rattle.report_reading.specs.BadLines.{first_bad_line, IsTextOf}
+use Rattle.report_terms.specs.declared.report.Body.{Body}
+use Rattle.report_terms.specs.declared.report.Body.TheVariants.{Refused, Solved as SolvedBody}
+use Rattle.report_terms.specs.declared.report.Report.{Report}
+use Rattle.report_reading.proofs.Complete.{bad_lines_are_of_no_report, texts_are_of_one_report}
 use Rattle.report_texts.specs.Laws.{Labelled, IsWritten, text_in}
 use Rattle.report_texts.proofs.Cutting.{first_texts_are_cut_off}
 use Rattle.report_texts.proofs.Models.{models_are_told}

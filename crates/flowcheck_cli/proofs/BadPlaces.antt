@@ -4,8 +4,8 @@ use Rattle.std.specs.Prelude.{Option, Some, Result, Ok, Err, IfErr, IfSome}
 use Rattle.std.proofs.lemmas.List.Sums.{count_by-le-length}
 use Rattle.std.proofs.lemmas.List.Splits.{length-slice_split}
 use Rattle.graph_text.specs.Labels.{LabelLists}
-use Rattle.path_report.specs.declared.read_fault.ReadWhy.{ReadWhy}
-use Rattle.path_report.specs.BadLines.{step, at_last, numbered, read_from, text_lines, empty_draft, bad_line, first_bad_line}
+use Rattle.report_reading.specs.declared.read_fault.ReadWhy.{ReadWhy}
+use Rattle.report_reading.specs.BadLines.{step, at_last, numbered, read_from, text_lines, empty_draft, bad_line, first_bad_line}
 
 -- the type of a value
 abbrev pub type_of : {A : Type 0} → A → Type 0

@@ -7,7 +7,7 @@ use Rattle.std.proofs.lemmas.Bool.{cond-true, cond-false}
 use Rattle.std.proofs.lemmas.Slice.Eq.{bytes_eq-Decides}
 use Rattle.decomposition.specs.declared.Mode.{Mode}
 use Rattle.decomposition.specs.declared.Mode.TheVariants.{Exact, Interval, Abs}
-use Rattle.path_report.specs.ReportText.{model_line}
+use Rattle.report_reading.specs.ReportText.{model_line}
 use Rattle.flowcheck_cli.specs.ReportTexts.{mode_of_line}
 
 -- the first number of paths that passes a test

@@ -5,16 +5,16 @@ use Rattle.std.specs.List.{join_with_byte}
 use Rattle.decomposition.specs.declared.Token.{Token}
 use Rattle.decomposition.specs.declared.Token.TheVariants.{Gap, Miss, Split, Step}
 use Rattle.graph_text.specs.Labels.{LabelLists, name_at, tail_at, head_at}
-use Rattle.path_report.specs.declared.report.Cert.{Cert}
-use Rattle.path_report.specs.declared.report.Cert.TheVariants.{Zero, Wide, Tree, Cut, Crowd}
-use Rattle.path_report.specs.declared.report.Trail.{Trail}
-use Rattle.path_report.specs.declared.report.Solved.{Solved}
-use Rattle.path_report.specs.declared.report.Body.{Body}
-use Rattle.path_report.specs.declared.report.Body.TheVariants.{Refused, Solved as SolvedBody}
-use Rattle.path_report.specs.declared.report.Report.{Report}
-use Rattle.path_report.specs.BadLines.{IsTextOf}
-use Rattle.path_report.specs.Names.{names_along}
-use Rattle.path_report.specs.ReportText.{line, side_word, trail_fields, edge_line, vertex_line, rule_line, token_line, path_line, cert_text, trail_text, safe_text, marks_text, solved_text, body_text, graph_line, model_line}
+use Rattle.report_terms.specs.declared.report.Cert.{Cert}
+use Rattle.report_terms.specs.declared.report.Cert.TheVariants.{Zero, Wide, Tree, Cut, Crowd}
+use Rattle.report_terms.specs.declared.report.Trail.{Trail}
+use Rattle.report_terms.specs.declared.report.Solved.{Solved}
+use Rattle.report_terms.specs.declared.report.Body.{Body}
+use Rattle.report_terms.specs.declared.report.Body.TheVariants.{Refused, Solved as SolvedBody}
+use Rattle.report_terms.specs.declared.report.Report.{Report}
+use Rattle.report_reading.specs.BadLines.{IsTextOf}
+use Rattle.report_reading.specs.Names.{names_along}
+use Rattle.report_reading.specs.ReportText.{line, side_word, trail_fields, edge_line, vertex_line, rule_line, token_line, path_line, cert_text, trail_text, safe_text, marks_text, solved_text, body_text, graph_line, model_line}
 use Rattle.cert_check.specs.Verdict.{Line, item_count, token_count, trail_lines, place_of, IsShortBody}
 use Rattle.cert_check.specs.Verdict.Line.{MarkLine, UpperLine, CertLine, TrailLine, SafeLine}
 use Rattle.flowcheck_cli.specs.Short.{HasFewItems, HasFewLines}

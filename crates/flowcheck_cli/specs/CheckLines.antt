@@ -5,9 +5,9 @@ use Rattle.decomposition.specs.declared.Mode.{Mode}
 use Rattle.flow_io.specs.declared.status.Status.{Status}
 use Rattle.flow_io.specs.declared.status.Status.TheVariants.{Clean, Partial, Refused}
 use Rattle.graph_text.specs.Blocks.{TextBlock, blocks}
-use Rattle.path_report.specs.ReportText.{line}
-use Rattle.path_report.specs.declared.read_fault.ReadWhy.{ReadWhy}
-use Rattle.path_report.specs.declared.read_fault.ReadWhy.TheVariants.{BadForm, BadNumber, BadName, BadOrder, NoEnd}
+use Rattle.report_reading.specs.ReportText.{line}
+use Rattle.report_reading.specs.declared.read_fault.ReadWhy.{ReadWhy}
+use Rattle.report_reading.specs.declared.read_fault.ReadWhy.TheVariants.{BadForm, BadNumber, BadName, BadOrder, NoEnd}
 use Rattle.flowcheck_cli.specs.Outcomes.{IsOutcome}
 use Rattle.flowcheck_cli.specs.ReportTexts.{report_texts, model_in, line_count}
 use Rattle.flowcheck_cli.specs.declared.outcome.Outcome.{Outcome}

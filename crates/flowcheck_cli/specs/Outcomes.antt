@@ -6,11 +6,11 @@ use Rattle.graph_text.specs.Reader.{handed}
 use Rattle.graph_text.specs.Reading.{instance_of}
 use Rattle.graph_text.specs.declared.block.Block.{Block}
 use Rattle.graph_text.specs.declared.block.RawGraph.{RawGraph}
-use Rattle.graph_text.specs.declared.refusal.Refusal.{Refusal}
-use Rattle.path_report.specs.BadLines.{first_bad_line, IsTextOf}
-use Rattle.path_report.specs.declared.report.Report.{Report}
-use Rattle.path_report.specs.declared.report.Body.{Body}
-use Rattle.path_report.specs.declared.report.Body.TheVariants.{Refused}
+use Rattle.report_terms.specs.declared.refusal.Refusal.{Refusal}
+use Rattle.report_reading.specs.BadLines.{first_bad_line, IsTextOf}
+use Rattle.report_terms.specs.declared.report.Report.{Report}
+use Rattle.report_terms.specs.declared.report.Body.{Body}
+use Rattle.report_terms.specs.declared.report.Body.TheVariants.{Refused}
 use Rattle.cert_check.specs.Verdict.{IsAcceptedBody, BodyFailsAt as ClaimFailsAt}
 use Rattle.cert_check.specs.declared.report.Verdict.{Verdict}
 use Rattle.cert_check.specs.declared.report.Verdict.TheVariants.{Yes as Accepted, No as Fails}

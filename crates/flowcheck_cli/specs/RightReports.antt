@@ -5,8 +5,8 @@ use Rattle.flow_io.specs.declared.status.Status.TheVariants.{Clean}
 use Rattle.graph_text.specs.Blocks.{TextBlock, blocks}
 use Rattle.graph_text.specs.Reader.{handed}
 use Rattle.graph_text.specs.Reading.{read}
-use Rattle.path_report.specs.BadLines.{IsTextOf}
-use Rattle.path_report.specs.declared.report.Report.{Report}
+use Rattle.report_reading.specs.BadLines.{IsTextOf}
+use Rattle.report_terms.specs.declared.report.Report.{Report}
 use Rattle.flowcheck_cli.specs.CheckLines.{IsPrinted, outcome_line, status_of_all}
 use Rattle.program_runs.specs.HandedBlocks.{labels_of}
 use Rattle.flowcheck_cli.specs.Outcomes.{IsRightReport}

@@ -1,8 +1,8 @@
 -- Reports with few lines, and verdicts whose line is a small number.
 use Rattle.std.specs.Prelude.{◌≤◌, ◌<◌, ◌^◌, length}
-use Rattle.path_report.specs.declared.report.Solved.{Solved}
-use Rattle.path_report.specs.declared.report.Body.{Body}
-use Rattle.path_report.specs.declared.report.Body.TheVariants.{Refused, Solved as SolvedBody}
+use Rattle.report_terms.specs.declared.report.Solved.{Solved}
+use Rattle.report_terms.specs.declared.report.Body.{Body}
+use Rattle.report_terms.specs.declared.report.Body.TheVariants.{Refused, Solved as SolvedBody}
 use Rattle.cert_check.specs.Verdict.{item_count, trail_lines}
 use Rattle.cert_check.specs.declared.report.Verdict.{Verdict}
 use Rattle.cert_check.specs.declared.report.Verdict.TheVariants.{Yes, No}

@@ -4,8 +4,8 @@ use Rattle.decomposition.specs.declared.Mode.{Mode}
 use Rattle.graph_text.specs.Blocks.{TextBlock, IsTextBlock}
 use Rattle.graph_text.specs.Reading.{read, instance_of}
 use Rattle.graph_text.specs.declared.block.RawGraph.{RawGraph}
-use Rattle.path_report.specs.BadLines.{IsTextOf}
-use Rattle.path_report.specs.declared.report.Report.{Report}
+use Rattle.report_reading.specs.BadLines.{IsTextOf}
+use Rattle.report_terms.specs.declared.report.Report.{Report}
 use Rattle.cert_check.specs.True.{IsTrueReport}
 use Rattle.flowcheck_cli.specs.Outcomes.{IsOutcome}
 use Rattle.flowcheck_cli.specs.declared.outcome.Outcome.TheVariants.{Yes}

@@ -1,7 +1,7 @@
 //! Worked examples, which the check computes.
 ghost use Rattle.std.specs.Prelude.{◌≡◌, [], ◌∷◌, codes};
 ghost use Rattle.decomposition.specs.declared.Mode.TheVariants.{Exact, Interval, Abs};
-ghost use Rattle.path_report.specs.declared.read_fault.ReadWhy.TheVariants.{BadName};
+ghost use Rattle.report_reading.specs.declared.read_fault.ReadWhy.TheVariants.{BadName};
 ghost use Rattle.flowcheck_cli.specs.CheckLines.{outcome_line, counts_line};
 ghost use Rattle.flowcheck_cli.specs.ReportTexts.{report_texts, model_in};
 ghost use Rattle.flowcheck_cli.specs.declared.outcome.Outcome.TheVariants.{Yes, No, Unread};

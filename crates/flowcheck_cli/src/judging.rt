@@ -1,7 +1,7 @@
 //! What the text of a report is answered for a block.
 ghost use Rattle.std.specs.Prelude.{◌≡◌, ◌≤◌, ◌<◌, ◌+◌, ◌^◌, length, IfOk, IfErr};
 ghost use Rattle.graph_text.specs.Blocks.{TextBlock};
-ghost use Rattle.path_report.specs.BadLines.{first_bad_line, IsTextOf, RefusesAs};
+ghost use Rattle.report_reading.specs.BadLines.{first_bad_line, IsTextOf, RefusesAs};
 ghost use Rattle.program_runs.specs.HandedBlocks.{IsHandedFor, labels_of};
 ghost use Rattle.flowcheck_cli.specs.Outcomes.{IsOutcome, line_of_file, outcome_of};
 ghost use Rattle.flowcheck_cli.specs.declared.outcome.Outcome.TheVariants.{Unread};
@@ -12,7 +12,8 @@ use crate::verdicts::verdict_on;
 use cert_check::Verdict;
 use dag_net::Mode;
 use graph_text::{Block, Labels, RawGraph, Refusal};
-use path_report::{ReadFault, ReadRefusal, Report, read_report};
+use report_reading::{ReadFault, ReadRefusal, read_report};
+use report_terms::Report;
 use std::alloc::{AllocError, Global};
 
 /// What a text that begins at line `at` of the text of reports is answered for a block that the reader handed out.

@@ -1,7 +1,7 @@
 //! The model that a text of reports names.
 ghost use Rattle.std.specs.Prelude.{◌≡◌};
 ghost use Rattle.decomposition.specs.declared.Mode.TheVariants.{Abs};
-ghost use Rattle.path_report.specs.ReportText.{model_line};
+ghost use Rattle.report_reading.specs.ReportText.{model_line};
 ghost use Rattle.flowcheck_cli.specs.ReportTexts.{ended_lines, second_of, mode_of_line, model_in};
 
 use crate::rest::{Rest, line_length};

@@ -4,7 +4,7 @@ ghost use Rattle.flowcheck_cli.specs.declared.outcome.Outcome.{Outcome as AnOutc
 ghost use Rattle.flowcheck_cli.specs.CheckLines.{status_of};
 
 use flow_io::Status;
-use path_report::ReadWhy;
+use report_reading::ReadWhy;
 
 /// The answer for one block. Lines are counted from 1 over the whole text of reports.
 #[derive(Clone, Copy, Debug, PartialEq, Eq)]

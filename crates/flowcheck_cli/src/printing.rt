@@ -7,7 +7,7 @@ ghost use Rattle.flowcheck_cli.specs.CheckLines.{cause_word, outcome_fields, out
 use crate::outcome::Outcome;
 use crate::short_line::ShortLine;
 use flow_io::{Fault, Output, write_whole};
-use path_report::ReadWhy;
+use report_reading::ReadWhy;
 
 /// Writes the line of the block with this number. After a fault a beginning of it was added. Takes no memory.
 pub fn write_outcome<O: Output>(out: &mut O, index: u64, outcome: Outcome) -> Result<(), Fault>

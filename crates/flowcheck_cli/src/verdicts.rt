@@ -8,7 +8,7 @@ ghost use Rattle.flowcheck_cli.specs.Short.{HasFewLines, IsSmall};
 use cert_check::{Verdict, check_report};
 use dag_net::Mode;
 use graph_text::{Block, RawGraph, Refusal};
-use path_report::{Body, Report};
+use report_terms::{Body, Report};
 use program_runs::problem_of;
 use std::alloc::{AllocError, Global};
 

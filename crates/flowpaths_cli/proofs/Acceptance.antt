@@ -11,14 +11,14 @@ use Rattle.decomposition.specs.Instance.{Instance}
 use Rattle.decomposition.specs.Tokens.{boxes_left, IsTrail}
 use Rattle.graph_text.specs.Reading.{instance_of}
 use Rattle.graph_text.specs.declared.block.RawGraph.{RawGraph}
-use Rattle.path_report.specs.declared.report.Body.{Body}
-use Rattle.path_report.specs.declared.report.Body.TheVariants.{Refused, Solved as SolvedBody}
-use Rattle.path_report.specs.declared.report.Cert.{Cert}
-use Rattle.path_report.specs.declared.report.Cert.TheVariants.{Zero, Wide, Tree, Cut, Crowd}
-use Rattle.path_report.specs.declared.report.Mark.{Mark}
-use Rattle.path_report.specs.declared.report.Mark.TheVariants.{Optimal, Infeasible, Bounds}
-use Rattle.path_report.specs.declared.report.Solved.{Solved}
-use Rattle.path_report.specs.declared.report.Trail.{Trail}
+use Rattle.report_terms.specs.declared.report.Body.{Body}
+use Rattle.report_terms.specs.declared.report.Body.TheVariants.{Refused, Solved as SolvedBody}
+use Rattle.report_terms.specs.declared.report.Cert.{Cert}
+use Rattle.report_terms.specs.declared.report.Cert.TheVariants.{Zero, Wide, Tree, Cut, Crowd}
+use Rattle.report_terms.specs.declared.report.Mark.{Mark}
+use Rattle.report_terms.specs.declared.report.Mark.TheVariants.{Optimal, Infeasible, Bounds}
+use Rattle.report_terms.specs.declared.report.Solved.{Solved}
+use Rattle.report_terms.specs.declared.report.Trail.{Trail}
 use Rattle.flowpaths_cli.specs.AcceptedReports.{RightReportsAreAccepted, SolvedReportsAreAccepted}
 use Rattle.flow_solver.specs.Right.{AreListed, ArePathsFor, CountsPaths, HasEachPathOnce, HasRanges, IsCertFor, IsCertOfNone, IsMarked, IsTrailFor, decision_between}
 use Rattle.flowpaths_cli.specs.Asked.{asked_by}

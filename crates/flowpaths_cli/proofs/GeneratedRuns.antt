@@ -12,7 +12,7 @@ use Rattle.program_runs.proofs.Writing.{where_written}
 use Rattle.block_runs.specs.Texts.{BeginsEnd}
 use Rattle.block_runs.specs.Underway.{EndsText}
 use Rattle.demo_text.specs.Accepted.{IsPlain}
-use Rattle.path_report.specs.declared.report.Report.{Report}
+use Rattle.report_terms.specs.declared.report.Report.{Report}
 use Rattle.flowpaths_cli.specs.declared.settings.Settings.{Settings}
 use Rattle.flowpaths_cli.specs.declared.tally.Tally.{Tally}
 use Rattle.flowpaths_cli.specs.Generated.{IsTallied, AreCounted, IsSolved, EndsSolved, IsToldWith, WritesCounts}

@@ -9,9 +9,10 @@ use Rattle.graph_text.specs.Reader.{handed}
 use Rattle.graph_text.specs.declared.block.Block.{Block}
 use Rattle.graph_text.proofs.RefusedLines.{refusal-line}
 use Rattle.program_runs.specs.HandedBlocks.{IsHandedFor}
-use Rattle.path_report.specs.ReportText.{is_mode, is_regular, is_regular_body, is_name, fits}
-use Rattle.path_report.specs.declared.report.Body.{Body}
-use Rattle.path_report.proofs.BlockNames.{is_name-name_of}
+use Rattle.report_terms.specs.NetFacts.{is_mode}
+use Rattle.report_reading.specs.ReportText.{is_regular, is_regular_body, is_name, fits}
+use Rattle.report_terms.specs.declared.report.Body.{Body}
+use Rattle.report_reading.proofs.BlockNames.{is_name-name_of}
 
 pub handed-refusal : (mode : Mode) (text : TextBlock) (block : Block) → IsHandedFor mode text block → IfErr block.body (λ r. 1 ≤ r.line)
 handed-refusal mode text block h =

@@ -6,12 +6,13 @@ use Rattle.decomposition.specs.declared.Mode.{Mode}
 use Rattle.decomposition.specs.Graph.{Graph}
 use Rattle.decomposition.specs.Instance.{Instance}
 use Rattle.graph_text.specs.Labels.{LabelLists}
-use Rattle.path_report.specs.Laws.{IsBodyOn, IsFoundIn}
-use Rattle.path_report.specs.ReportText.{is_mode, is_regular}
-use Rattle.path_report.specs.declared.report.Body.{Body}
-use Rattle.path_report.specs.declared.report.Report.{Report}
-use Rattle.path_report.specs.declared.report.Solved.{Solved}
-use Rattle.path_report.proofs.Lawful.{found_is_regular, reports_are_regular}
+use Rattle.report_terms.specs.NetFacts.{IsBodyOn, IsFoundIn}
+use Rattle.report_terms.specs.NetFacts.{is_mode}
+use Rattle.report_reading.specs.ReportText.{is_regular}
+use Rattle.report_terms.specs.declared.report.Body.{Body}
+use Rattle.report_terms.specs.declared.report.Report.{Report}
+use Rattle.report_terms.specs.declared.report.Solved.{Solved}
+use Rattle.report_reading.proofs.Lawful.{found_is_regular, reports_are_regular}
 use Rattle.flowpaths_cli.specs.Right.{SolvedRight}
 use Rattle.flowpaths_cli.specs.Solving.{AreForSolving, AreLabelsFor, IsMadeOf, IsRegularFor, IsReportable}
 use Rattle.flowpaths_cli.specs.declared.settings.Settings.{Settings}

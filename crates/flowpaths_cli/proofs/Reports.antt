@@ -10,9 +10,9 @@ use Rattle.graph_text.specs.Blocks.{TextBlock}
 use Rattle.graph_text.specs.Labels.{LabelLists}
 use Rattle.graph_text.specs.Reader.{handed}
 use Rattle.graph_text.specs.declared.block.Block.{Block}
-use Rattle.path_report.specs.ReportText.{is_regular, text_of}
-use Rattle.path_report.specs.declared.report.Body.{Body}
-use Rattle.path_report.specs.declared.report.Report.{Report}
+use Rattle.report_reading.specs.ReportText.{is_regular, text_of}
+use Rattle.report_terms.specs.declared.report.Body.{Body}
+use Rattle.report_terms.specs.declared.report.Report.{Report}
 use Rattle.program_runs.specs.HandedBlocks.{IsHandedFor}
 use Rattle.program_runs.proofs.Statuses.{done-by}
 use Rattle.block_runs.specs.Answering.{IsRightAndMayBeCut, IsCutOff, Finishes}

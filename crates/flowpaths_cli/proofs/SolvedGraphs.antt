@@ -12,13 +12,13 @@ use Rattle.demo_text.specs.Accepted.{IsPlain}
 use Rattle.graph_text.specs.Blocks.{TextBlock}
 use Rattle.graph_text.specs.Reading.{read, instance_of}
 use Rattle.graph_text.specs.declared.block.RawGraph.{RawGraph}
-use Rattle.graph_text.specs.declared.refusal.Refusal.{Refusal}
-use Rattle.path_report.specs.declared.report.Report.{Report}
-use Rattle.path_report.specs.declared.report.Solved.{Solved}
-use Rattle.path_report.specs.declared.report.Body.{Body}
-use Rattle.path_report.specs.declared.report.Body.TheVariants.{Refused, Solved as SolvedBody}
-use Rattle.path_report.specs.declared.report.Mark.{Mark}
-use Rattle.path_report.specs.declared.report.Mark.TheVariants.{Optimal, Infeasible, Bounds}
+use Rattle.report_terms.specs.declared.refusal.Refusal.{Refusal}
+use Rattle.report_terms.specs.declared.report.Report.{Report}
+use Rattle.report_terms.specs.declared.report.Solved.{Solved}
+use Rattle.report_terms.specs.declared.report.Body.{Body}
+use Rattle.report_terms.specs.declared.report.Body.TheVariants.{Refused, Solved as SolvedBody}
+use Rattle.report_terms.specs.declared.report.Mark.{Mark}
+use Rattle.report_terms.specs.declared.report.Mark.TheVariants.{Optimal, Infeasible, Bounds}
 use Rattle.flowpaths_cli.specs.declared.settings.Settings.{Settings}
 use Rattle.flow_solver.specs.Booking.{AreBookedFor, BookedFit, IsKnownWhereBookedFit}
 use Rattle.flowpaths_cli.specs.Generated.{IsFewest, AreFewest}

@@ -8,7 +8,7 @@ use Rattle.clap.specs.Words.{Text}
 use Rattle.decomposition.specs.declared.Mode.{Mode}
 use Rattle.decomposition.specs.declared.Mode.TheVariants.{Exact, Interval, Abs}
 use Rattle.graph_text.specs.Reading.{are_digits, number_of}
-use Rattle.path_report.specs.ReportText.{is_mode}
+use Rattle.report_terms.specs.NetFacts.{is_mode}
 use Rattle.flowpaths_cli.specs.Numbers.{number_in, most_nodes, most_paths, most_seed}
 use Rattle.flowpaths_cli.specs.Right.{AreBuilt}
 use Rattle.flowpaths_cli.specs.Values.{Values, asks_model, has_bad_model, has_bad_paths, has_bad_nodes, has_bad_seed, has_stray_paths, lacks_paths, has_stray_safe, has_stray_seed, is_refused, mode_by, settings_by, default_nodes}

@@ -5,9 +5,9 @@ use Rattle.graph_text.specs.Blocks.{TextBlock}
 use Rattle.graph_text.specs.Reading.{read, instance_of}
 use Rattle.graph_text.specs.declared.block.RawGraph.{RawGraph}
 use Rattle.decomposition.specs.Instance.{Instance}
-use Rattle.path_report.specs.declared.report.Report.{Report}
-use Rattle.path_report.specs.declared.report.Solved.{Solved}
-use Rattle.path_report.specs.declared.report.Body.TheVariants.{Solved as SolvedBody}
+use Rattle.report_terms.specs.declared.report.Report.{Report}
+use Rattle.report_terms.specs.declared.report.Solved.{Solved}
+use Rattle.report_terms.specs.declared.report.Body.TheVariants.{Solved as SolvedBody}
 use Rattle.flowpaths_cli.specs.Right.{AreBuilt, IsReportOf, SolvedRight}
 use Rattle.flowpaths_cli.specs.Solving.{AreForSolving}
 use Rattle.flowpaths_cli.specs.declared.settings.Settings.{Settings}

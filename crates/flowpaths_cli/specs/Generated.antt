@@ -8,7 +8,7 @@ use Rattle.flow_io.specs.declared.status.Status.{Status}
 use Rattle.flow_io.specs.declared.status.Status.TheVariants.{Clean, Partial, Refused, Words, Fault, Memory, Long}
 use Rattle.graph_text.specs.Blocks.{TextBlock, blocks}
 use Rattle.graph_text.specs.Reading.{read, instance_of}
-use Rattle.path_report.specs.declared.report.Report.{Report}
+use Rattle.report_terms.specs.declared.report.Report.{Report}
 use Rattle.flowpaths_cli.specs.declared.generated.Counting.{Counting}
 use Rattle.flowpaths_cli.specs.declared.settings.Settings.{Settings}
 use Rattle.flowpaths_cli.specs.declared.tally.Tally.{Tally}

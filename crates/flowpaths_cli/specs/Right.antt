@@ -1,5 +1,5 @@
 -- When a report is right for a block, and the status of a run.
-pub use Rattle.path_report.specs.BadLines.{IsTextOf}
+pub use Rattle.report_reading.specs.BadLines.{IsTextOf}
 pub use Rattle.program_runs.specs.HandedBlocks.{labels_of}
 use Rattle.std.specs.Prelude.{◌≡◌, ◌≤◌, ℕ, List, Bool, true, false, if◌then◌else◌, Result, Ok, Err, IfSome, IsTrue}
 use Rattle.std.specs.List.{list_any}
@@ -11,14 +11,14 @@ use Rattle.flow_solver.specs.Right.{SolvedRight as RightAsAsked}
 use Rattle.graph_text.specs.Blocks.{TextBlock, name_of}
 use Rattle.graph_text.specs.Reading.{read, instance_of}
 use Rattle.graph_text.specs.declared.block.RawGraph.{RawGraph}
-use Rattle.graph_text.specs.declared.refusal.Refusal.{Refusal}
-use Rattle.path_report.specs.declared.report.Report.{Report}
-use Rattle.path_report.specs.declared.report.Solved.{Solved}
-use Rattle.path_report.specs.declared.report.Body.{Body}
-use Rattle.path_report.specs.declared.report.Body.TheVariants.{Refused, Solved as SolvedBody}
-use Rattle.path_report.specs.declared.report.Mark.{Mark}
-use Rattle.path_report.specs.declared.report.Mark.TheVariants.{Optimal, Infeasible, Bounds}
-use Rattle.path_report.specs.ReportText.{is_mode}
+use Rattle.report_terms.specs.declared.refusal.Refusal.{Refusal}
+use Rattle.report_terms.specs.declared.report.Report.{Report}
+use Rattle.report_terms.specs.declared.report.Solved.{Solved}
+use Rattle.report_terms.specs.declared.report.Body.{Body}
+use Rattle.report_terms.specs.declared.report.Body.TheVariants.{Refused, Solved as SolvedBody}
+use Rattle.report_terms.specs.declared.report.Mark.{Mark}
+use Rattle.report_terms.specs.declared.report.Mark.TheVariants.{Optimal, Infeasible, Bounds}
+use Rattle.report_terms.specs.NetFacts.{is_mode}
 use Rattle.flowpaths_cli.specs.Asked.{asked_by}
 use Rattle.flowpaths_cli.specs.Numbers.{most_nodes, most_seed}
 use Rattle.flowpaths_cli.specs.declared.settings.Settings.{Settings}

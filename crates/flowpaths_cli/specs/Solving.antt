@@ -5,10 +5,10 @@ use Rattle.decomposition.specs.Graph.{Graph}
 use Rattle.decomposition.specs.Instance.{Instance}
 use Rattle.flow_solver.specs.Asked.{MayBeAsked}
 use Rattle.graph_text.specs.Labels.{LabelLists}
-use Rattle.path_report.specs.declared.report.Report.{Report}
-use Rattle.path_report.specs.declared.report.Solved.{Solved}
-use Rattle.path_report.specs.declared.report.Body.TheVariants.{Solved as SolvedBody}
-use Rattle.path_report.specs.ReportText.{is_name, is_regular, is_regular_solved}
+use Rattle.report_terms.specs.declared.report.Report.{Report}
+use Rattle.report_terms.specs.declared.report.Solved.{Solved}
+use Rattle.report_terms.specs.declared.report.Body.TheVariants.{Solved as SolvedBody}
+use Rattle.report_reading.specs.ReportText.{is_name, is_regular, is_regular_solved}
 use Rattle.flowpaths_cli.specs.Asked.{asked_by}
 use Rattle.flowpaths_cli.specs.declared.settings.Settings.{Settings}
 

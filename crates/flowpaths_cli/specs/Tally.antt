@@ -1,7 +1,7 @@
 -- The counts of reports, and the four lines that tell them.
 use Rattle.std.specs.Prelude.{ℕ, ◌+◌, ◌*◌, ◌^◌, ◌<◌, ◌≤◌, List, ◌++◌, length, count_by, sum_by, codes, decimal}
 use Rattle.graph_text.specs.Reading.{most_edges, most_constraints}
-use Rattle.path_report.specs.declared.report.Report.{Report}
+use Rattle.report_terms.specs.declared.report.Report.{Report}
 use Rattle.flowpaths_cli.specs.declared.tally.Tally.{Tally}
 use Rattle.flowpaths_cli.specs.Marks.{is_best, paths_of}
 use Rattle.flowpaths_cli.specs.Right.{is_open}

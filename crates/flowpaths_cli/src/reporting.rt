@@ -1,8 +1,8 @@
 //! The worker that writes a report for each block.
 ghost use Rattle.std.specs.Prelude.{◌≡◌, ◌≤◌, ◌∷◌, [], ◌++◌, List, IfOk, IfErr, IsTrue};
-ghost use Rattle.path_report.specs.declared.report.Report.{Report as AReport};
+ghost use Rattle.report_terms.specs.declared.report.Report.{Report as AReport};
 ghost use Rattle.graph_text.specs.Accepted.{IsAccepted};
-ghost use Rattle.path_report.specs.ReportText.{is_regular_body};
+ghost use Rattle.report_reading.specs.ReportText.{is_regular_body};
 ghost use Rattle.flowpaths_cli.specs.Right.{status_of, AreBuilt, BodyRight, labels_of};
 ghost use Rattle.flowpaths_cli.specs.Run.{IsOutput, IsOutputWith};
 ghost use Rattle.flowpaths_cli.specs.Reporting.{HasReported, model_stays};
@@ -13,7 +13,8 @@ use block_runs::{Stop, Worker};
 use dag_net::Mode;
 use flow_io::{Output, Status};
 use graph_text::{Block, Labels, RawGraph, Refusal};
-use path_report::{Body, Mark, Report, write_report};
+use path_report::write_report;
+use report_terms::{Body, Mark, Report};
 use std::alloc::{AllocError, Global};
 
 /// Reports blocks under settings. The status is that of the reports so far.

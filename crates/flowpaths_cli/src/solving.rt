@@ -8,7 +8,7 @@ ghost use Rattle.flowpaths_cli.specs.Solving.{AreForSolving, IsRegularFor, IsRep
 use crate::settings::Settings;
 use flow_solver::solve;
 use graph_text::RawGraph;
-use path_report::Solved;
+use report_terms::Solved;
 use program_runs::problem_of;
 use std::alloc::{AllocError, Global};
 

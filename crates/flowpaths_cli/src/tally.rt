@@ -1,10 +1,10 @@
 //! The counts of what is said of the graphs of a text, and the lines that tell them.
 ghost use Rattle.std.specs.Prelude.{◌≡◌, ◌≤◌, ◌<◌, List, [], ◌∷◌, ◌++◌, IfOk, string_bytes};
-ghost use Rattle.path_report.specs.declared.report.Report.{Report as AReport};
+ghost use Rattle.report_terms.specs.declared.report.Report.{Report as AReport};
 ghost use Rattle.flowpaths_cli.specs.Marks.{paths_of};
 
 use flow_io::Status;
-use path_report::{Body, Mark};
+use report_terms::{Body, Mark};
 use std::alloc::{AllocError, Global};
 
 /// How many graphs there are, how many of them have each mark, and how many paths are known in all.

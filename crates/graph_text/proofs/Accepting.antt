@@ -15,8 +15,8 @@ use Rattle.decomposition.specs.Instance.{FitsModel, lower_bound}
 use Rattle.decomposition.proofs.Balance.{inner-parts}
 use Rattle.decomposition.proofs.Walks.{IsStep, walk-cons, edge_out_of}
 use Rattle.decomposition.proofs.Reaching.{closes_some, IsNet-more}
-use Rattle.graph_text.specs.declared.refusal.Why.TheVariants.{Cycle, UnknownEdge, Unconserved}
-use Rattle.graph_text.specs.declared.refusal.Refusal.{Refusal}
+use Rattle.report_terms.specs.declared.refusal.Why.TheVariants.{Cycle, UnknownEdge, Unconserved}
+use Rattle.report_terms.specs.declared.refusal.Refusal.{Refusal}
 use Rattle.graph_text.specs.declared.block.RawGraph.{RawGraph}
 use Rattle.graph_text.specs.Accepted.{IsAccepted, GraphsAreAccepted}
 use Rattle.graph_text.specs.Labels.{is_field}

@@ -7,7 +7,7 @@ use Rattle.decomposition.specs.Flow.{IsBalanced, IsFirstUnbalanced}
 use Rattle.decomposition.specs.Graph.{Graph, graph_of, IsNet}
 use Rattle.dag_net.specs.Build.{FollowsNet, ClosesCycle}
 use Rattle.graph_text.specs.declared.block.RawGraph.{RawGraph}
-use Rattle.graph_text.specs.declared.refusal.Why.TheVariants.{Cycle, UnknownEdge, Unconserved}
+use Rattle.report_terms.specs.declared.refusal.Why.TheVariants.{Cycle, UnknownEdge, Unconserved}
 use Rattle.graph_text.specs.Constraints.{Listing, listing_of, first_unknown}
 use Rattle.graph_text.specs.DraftGraph.{numbers_of}
 use Rattle.graph_text.specs.FirstEdges.{IsFirstAt, IsUnbalancedEdge}

@@ -10,7 +10,7 @@ use Rattle.std.specs.declared.alloc.Global.{Global}
 use Rattle.std.proofs.lemmas.Bool.{false≢true, cond-true, cond-false, cases_Bool}
 use Rattle.std.proofs.lemmas.List.{get_or_default, length-map}
 use Rattle.std.proofs.lemmas.List.Elements.{Contains-get_or}
-use Rattle.graph_text.specs.declared.refusal.Why.TheVariants.{RepeatedEdge, TooManyEdges}
+use Rattle.report_terms.specs.declared.refusal.Why.TheVariants.{RepeatedEdge, TooManyEdges}
 use Rattle.graph_text.specs.DraftGraph.{HasEdge}
 use Rattle.graph_text.specs.Labels.{LabelLists, name_at, tail_at, head_at}
 use Rattle.graph_text.specs.LineFaults.{fault_among}

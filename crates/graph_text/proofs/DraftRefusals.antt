@@ -7,7 +7,7 @@ use Rattle.std.proofs.lemmas.List.{drop_more}
 use Rattle.std.proofs.lemmas.List.Kept.{AllPairs-filter}
 use Rattle.decomposition.specs.declared.Mode.{Mode}
 use Rattle.graph_text.specs.declared.draft.Draft.{Draft}
-use Rattle.graph_text.specs.declared.refusal.Refusal.{Refusal}
+use Rattle.report_terms.specs.declared.refusal.Refusal.{Refusal}
 use Rattle.graph_text.specs.Draft.{Drafts, settled_refusals}
 use Rattle.graph_text.specs.DraftGraph.{numbers_of}
 use Rattle.graph_text.specs.LineFaults.{NoneRefused, without_count}

@@ -15,14 +15,14 @@ use Rattle.graph_text.proofs.Finishing.{Rises}
 use Rattle.std.proofs.lemmas.List.Folds.{list_any-append}
 use Rattle.decomposition.specs.declared.Mode.{Mode}
 use Rattle.graph_text.specs.declared.draft.Draft.{Draft}
-use Rattle.graph_text.specs.declared.refusal.Why.{Why}
-use Rattle.graph_text.specs.declared.refusal.Refusal.{Refusal}
+use Rattle.report_terms.specs.declared.refusal.Why.{Why}
+use Rattle.report_terms.specs.declared.refusal.Refusal.{Refusal}
 use Rattle.graph_text.specs.Constraints.{Listing, listing_of, with_listing}
 use Rattle.graph_text.specs.Draft.{Drafts, is_content, is_run, settled_refusals}
 use Rattle.graph_text.specs.DraftGraph.{HoldsEdges, numbers_of}
 use Rattle.graph_text.specs.Lines.{are_no_fields, are_hash_fields}
 use Rattle.graph_text.specs.LineFaults.{refusal_at, fault_of_comment, fault_of_run}
-use Rattle.graph_text.specs.declared.refusal.Why.TheVariants.{LongLine, ShortConstraint}
+use Rattle.report_terms.specs.declared.refusal.Why.TheVariants.{LongLine, ShortConstraint}
 use Rattle.graph_text.specs.Reading.{Line, most_bytes, content_lines, edge_lines, listed, same_fields, is_short, constraint_lines, earliest, or_else}
 use Rattle.graph_text.specs.ShownLine.{IsBlank, IsHash, IsRunLine, IsContent}
 use Rattle.graph_text.proofs.FirstLists.{is_listed, constraints-other, constraints-run}

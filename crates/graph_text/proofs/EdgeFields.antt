@@ -9,7 +9,7 @@ use Rattle.std.proofs.lemmas.List.{get_or-map, length-map, take-map}
 use Rattle.decomposition.specs.declared.Mode.{Mode}
 use Rattle.decomposition.specs.declared.Mode.TheVariants.{Exact, Interval, Abs}
 use Rattle.decomposition.specs.declared.Range.{Range}
-use Rattle.graph_text.specs.declared.refusal.Why.TheVariants.{BadFields, BadWeight, BadRange}
+use Rattle.report_terms.specs.declared.refusal.Why.TheVariants.{BadFields, BadWeight, BadRange}
 use Rattle.graph_text.specs.LineFaults.{weights_in, fault_of_fields}
 use Rattle.graph_text.specs.Labels.{is_field}
 use Rattle.graph_text.specs.Lines.{fields_of}

@@ -17,9 +17,9 @@ use Rattle.decomposition.proofs.Balance.{inner-parts}
 use Rattle.decomposition.proofs.Reaching.{closes_none, closes_some}
 use Rattle.decomposition.proofs.Walks.{edge_out_of}
 use Rattle.dag_net.specs.Build.{FollowsNet, IsRepeated, ClosesCycle, IsInside}
-use Rattle.graph_text.specs.declared.refusal.Why.{Why}
-use Rattle.graph_text.specs.declared.refusal.Why.TheVariants.{LongLine, BadCount, BadFields, BadWeight, BadRange, RepeatedEdge, TooManyEdges, TooManyConstraints, ShortConstraint, Cycle, Unconserved}
-use Rattle.graph_text.specs.declared.refusal.Refusal.{Refusal}
+use Rattle.report_terms.specs.declared.refusal.Why.{Why}
+use Rattle.report_terms.specs.declared.refusal.Why.TheVariants.{LongLine, BadCount, BadFields, BadWeight, BadRange, RepeatedEdge, TooManyEdges, TooManyConstraints, ShortConstraint, Cycle, Unconserved}
+use Rattle.report_terms.specs.declared.refusal.Refusal.{Refusal}
 use Rattle.graph_text.specs.declared.block.RawGraph.{RawGraph}
 use Rattle.graph_text.specs.Draft.{settled_refusals}
 use Rattle.graph_text.specs.LineFaults.{is_of_length, without_count}

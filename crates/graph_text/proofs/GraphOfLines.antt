@@ -13,9 +13,9 @@ use Rattle.std.proofs.lemmas.Slice.Eq.{bytes_eq-Decides}
 use Rattle.decomposition.specs.declared.Mode.{Mode}
 use Rattle.decomposition.specs.declared.Range.{Range}
 use Rattle.decomposition.proofs.Open.{all-from_places}
-use Rattle.graph_text.specs.declared.refusal.Why.{Why}
-use Rattle.graph_text.specs.declared.refusal.Why.TheVariants.{BadFields, BadWeight, BadRange, RepeatedEdge, TooManyEdges, TooManyConstraints, ShortConstraint}
-use Rattle.graph_text.specs.declared.refusal.Refusal.{Refusal}
+use Rattle.report_terms.specs.declared.refusal.Why.{Why}
+use Rattle.report_terms.specs.declared.refusal.Why.TheVariants.{BadFields, BadWeight, BadRange, RepeatedEdge, TooManyEdges, TooManyConstraints, ShortConstraint}
+use Rattle.report_terms.specs.declared.refusal.Refusal.{Refusal}
 use Rattle.graph_text.specs.Draft.{settled_refusals}
 use Rattle.graph_text.specs.Reading.{Line, most_edges, most_constraints, constraint_lines, short_lines, most_weight, edge_lines, ends_of, same_fields, last_fields, weights_of, value_of, range_in, range_of, refused, bad_fields, bad_weights, bad_ranges, repeats, line_refusals, earlier, earliest, names_of, edges_of, vertex_of, pair_in, edge_of, is_weight_form, number_of}
 use Rattle.graph_text.proofs.Places.{place_of_contained}

@@ -12,7 +12,7 @@ use Rattle.decomposition.specs.declared.Mode.{Mode}
 use Rattle.graph_text.specs.declared.block.Block.{Block}
 use Rattle.graph_text.specs.declared.block.RawGraph.{RawGraph}
 use Rattle.graph_text.specs.declared.draft.Draft.{Draft}
-use Rattle.graph_text.specs.declared.refusal.Refusal.{Refusal}
+use Rattle.report_terms.specs.declared.refusal.Refusal.{Refusal}
 use Rattle.graph_text.specs.declared.cutter.Cutter.{Cutter}
 use Rattle.graph_text.specs.Lines.{is_blank, is_blank_line, is_content_line, is_hash_line, is_run_line, begins_with_hash, without_return}
 use Rattle.graph_text.specs.Blocks.{name_in, name_of_lines, after_blanks, trimmed, blocks, complete, is_graph}

@@ -5,8 +5,8 @@ use Rattle.std.proofs.lemmas.Bool.{cond-true, cond-false, cases_Bool, ne_eqb}
 use Rattle.std.proofs.lemmas.List.{append-nil, drop_at, length_push, take-append-le, drop-append-le}
 use Rattle.std.proofs.lemmas.List.Elements.{filter-append}
 use Rattle.decomposition.specs.declared.Mode.{Mode}
-use Rattle.graph_text.specs.declared.refusal.Why.TheVariants.{LongLine, BadCount, BadFields, BadWeight, BadRange, RepeatedEdge, TooManyEdges, TooManyConstraints, ShortConstraint}
-use Rattle.graph_text.specs.declared.refusal.Refusal.{Refusal}
+use Rattle.report_terms.specs.declared.refusal.Why.TheVariants.{LongLine, BadCount, BadFields, BadWeight, BadRange, RepeatedEdge, TooManyEdges, TooManyConstraints, ShortConstraint}
+use Rattle.report_terms.specs.declared.refusal.Refusal.{Refusal}
 use Rattle.graph_text.specs.Lines.{are_no_fields, are_hash_fields, are_run_fields}
 use Rattle.graph_text.specs.ShownLine.{IsBlank, IsHash, IsContent}
 use Rattle.graph_text.specs.Reading.{Line, most_edges, most_constraints, filled_lines, content_lines, run_lines, count_lines, edge_lines, last_filled, long_lines, bad_fields, bad_weights, bad_ranges, repeats, constraint_lines, short_lines, is_count, refused, earliest, or_else}

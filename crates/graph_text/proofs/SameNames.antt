@@ -4,7 +4,7 @@ use Rattle.std.specs.Borrow.{Bor}
 use Rattle.std.specs.Prelude.{nat_lt}
 use Rattle.std.proofs.lemmas.Bool.{false_from_ne_true}
 use Rattle.std.proofs.lemmas.List.{take_more, take_all, length-map, get_or-map}
-use Rattle.graph_text.specs.declared.refusal.Why.TheVariants.{TooManyConstraints, ShortConstraint}
+use Rattle.report_terms.specs.declared.refusal.Why.TheVariants.{TooManyConstraints, ShortConstraint}
 use Rattle.graph_text.specs.Constraints.{Listing, has_list}
 use Rattle.graph_text.specs.LineFaults.{fault_of_list}
 use Rattle.graph_text.specs.Reading.{most_constraints, same_fields}

@@ -5,9 +5,9 @@ use Rattle.std.proofs.lemmas.Bool.{cond-true, cond-false, cases_order, ne_eqb, e
 use Rattle.std.proofs.lemmas.List.{append-nil, drop_at, drop_all, take-append-le, drop-append-le, length_push, length-drop, length-map}
 use Rattle.std.proofs.lemmas.List.Elements.{All-filter, All-take, All-drop, All-append, All-tail, All-nil, filter-append}
 use Rattle.decomposition.specs.declared.Mode.{Mode}
-use Rattle.graph_text.specs.declared.refusal.Why.{Why}
-use Rattle.graph_text.specs.declared.refusal.Why.TheVariants.{LongLine, BadCount, BadFields, BadWeight, BadRange, RepeatedEdge, TooManyEdges, TooManyConstraints, ShortConstraint}
-use Rattle.graph_text.specs.declared.refusal.Refusal.{Refusal}
+use Rattle.report_terms.specs.declared.refusal.Why.{Why}
+use Rattle.report_terms.specs.declared.refusal.Why.TheVariants.{LongLine, BadCount, BadFields, BadWeight, BadRange, RepeatedEdge, TooManyEdges, TooManyConstraints, ShortConstraint}
+use Rattle.report_terms.specs.declared.refusal.Refusal.{Refusal}
 use Rattle.graph_text.specs.Lines.{are_no_fields, are_hash_fields, are_run_fields}
 use Rattle.graph_text.specs.Reading.{Line, most_bytes, most_edges, most_constraints, listed, is_short, short_lines, run_lines, constraint_lines, filled_lines, content_lines, count_lines, edge_lines, long_lines, repeats, is_count, is_weight, weights_of, last_fields, range_of, same_fields, ends_of, refused, earliest, or_else}
 use Rattle.graph_text.specs.Draft.{settled_refusals}

@@ -7,8 +7,8 @@ use Rattle.decomposition.specs.declared.Mode.TheVariants.{Exact, Interval, Abs}
 use Rattle.decomposition.specs.Graph.{IsNet, edge_count}
 use Rattle.decomposition.specs.Flow.{IsFirstUnbalanced, IsBalanced}
 use Rattle.dag_net.specs.Build.{FollowsNet, ClosesCycle}
-use Rattle.graph_text.specs.declared.refusal.Why.TheVariants.{Cycle, UnknownEdge, Unconserved}
-use Rattle.graph_text.specs.declared.refusal.Refusal.{Refusal}
+use Rattle.report_terms.specs.declared.refusal.Why.TheVariants.{Cycle, UnknownEdge, Unconserved}
+use Rattle.report_terms.specs.declared.refusal.Refusal.{Refusal}
 use Rattle.graph_text.specs.declared.block.RawGraph.{RawGraph}
 use Rattle.graph_text.specs.Constraints.{listing_of, first_unknown}
 use Rattle.graph_text.specs.Draft.{settled_refusals}

@@ -2,9 +2,9 @@
 use Rattle.std.specs.Prelude.{◌≡◌, ℕ, ◌+◌, ◌-◌, ◌<◌, ◌==◌, List, ◌++◌, length, take, drop, filter, Bool, true, false, not, ◌&&◌, ◌||◌, nat_lt, if◌then◌else◌, Option, Some, None}
 use Rattle.std.specs.List.{list_any, list_all}
 use Rattle.decomposition.specs.declared.Mode.{Mode}
-use Rattle.graph_text.specs.declared.refusal.Why.{Why}
-use Rattle.graph_text.specs.declared.refusal.Why.TheVariants.{LongLine, BadCount, BadFields, BadWeight, BadRange, RepeatedEdge, TooManyEdges, TooManyConstraints, ShortConstraint}
-use Rattle.graph_text.specs.declared.refusal.Refusal.{Refusal}
+use Rattle.report_terms.specs.declared.refusal.Why.{Why}
+use Rattle.report_terms.specs.declared.refusal.Why.TheVariants.{LongLine, BadCount, BadFields, BadWeight, BadRange, RepeatedEdge, TooManyEdges, TooManyConstraints, ShortConstraint}
+use Rattle.report_terms.specs.declared.refusal.Refusal.{Refusal}
 use Rattle.graph_text.specs.Lines.{are_no_fields, are_hash_fields}
 use Rattle.graph_text.specs.Reading.{Line, most_bytes, most_edges, most_constraints, content_lines, count_lines, edge_lines, long_lines, bad_fields, bad_weights, bad_ranges, repeats, listed, short_lines, constraint_lines, is_count, is_weight, weights_of, range_in, same_fields, ends_of, refused, earliest}
 

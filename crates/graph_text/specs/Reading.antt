@@ -9,9 +9,9 @@ use Rattle.decomposition.specs.Graph.{Graph, graph_of, graph_before, tail, head,
 use Rattle.decomposition.specs.Flow.{flow_into, flow_out_of}
 use Rattle.decomposition.specs.Instance.{Instance, range_at}
 use Rattle.decomposition.specs.Reach.{reaches}
-use Rattle.graph_text.specs.declared.refusal.Why.{Why}
-use Rattle.graph_text.specs.declared.refusal.Why.TheVariants.{LongLine, BadCount, BadFields, BadWeight, BadRange, RepeatedEdge, TooManyEdges, TooManyConstraints, ShortConstraint, Cycle, UnknownEdge, Unconserved}
-use Rattle.graph_text.specs.declared.refusal.Refusal.{Refusal}
+use Rattle.report_terms.specs.declared.refusal.Why.{Why}
+use Rattle.report_terms.specs.declared.refusal.Why.TheVariants.{LongLine, BadCount, BadFields, BadWeight, BadRange, RepeatedEdge, TooManyEdges, TooManyConstraints, ShortConstraint, Cycle, UnknownEdge, Unconserved}
+use Rattle.report_terms.specs.declared.refusal.Refusal.{Refusal}
 use Rattle.graph_text.specs.declared.block.RawGraph.{RawGraph}
 use Rattle.graph_text.specs.Lines.{fields_of, are_no_fields, are_hash_fields, are_run_fields}
 use Rattle.graph_text.specs.Blocks.{TextBlock}

@@ -1,7 +1,7 @@
 //! Blocks of a graph text, and the graphs that they are read as.
 
 use crate::labels::Labels;
-use crate::refusal::Refusal;
+use report_terms::Refusal;
 use dag_net::{IdLists, Net, Ranges};
 use flow_io::Bytes;
 

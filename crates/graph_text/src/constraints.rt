@@ -9,7 +9,7 @@ ghost use Rattle.graph_text.specs.ShownLine.{ShowsLine};
 
 use crate::fields::fields;
 use crate::labels::Labels;
-use crate::refusal::Why;
+use report_terms::Why;
 use dag_net::{IdLists, Ids};
 use indexmap::IndexMap;
 use std::alloc::{AllocError, Global};

@@ -11,7 +11,7 @@ use crate::block::RawGraph;
 use crate::constraints::Constraints;
 use crate::draft_graph::DraftGraph;
 use crate::fields::{fields, is_blank_text, is_count, is_hash_text, is_run_text};
-use crate::refusal::{Refusal, Why};
+use report_terms::{Refusal, Why};
 use dag_net::Mode;
 use std::alloc::{AllocError, Global};
 

@@ -18,7 +18,7 @@ use crate::constraints::Constraints;
 use crate::edge_line::read_range;
 use crate::fields::fields;
 use crate::labels::Labels;
-use crate::refusal::{Refusal, Why};
+use report_terms::{Refusal, Why};
 use dag_net::{BuildFault, Mode, Net, Range, Ranges};
 use std::alloc::{AllocError, Global};
 

@@ -5,7 +5,7 @@ ghost use Rattle.graph_text.specs.LineFaults.{weights_in, fault_of_fields};
 ghost use Rattle.graph_text.specs.Reading.{weights_of, range_in, most_weight};
 
 use crate::fields::parse_weight;
-use crate::refusal::Why;
+use report_terms::Why;
 use dag_net::{Mode, Range};
 
 /// How many weights an edge line ends with.

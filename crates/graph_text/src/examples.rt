@@ -5,7 +5,7 @@ ghost use Rattle.decomposition.specs.declared.Mode.TheVariants.{Exact, Interval}
 ghost use Rattle.graph_text.specs.Lines.{lines_of, fields_of};
 ghost use Rattle.graph_text.specs.Blocks.{blocks, complete, name_of};
 ghost use Rattle.graph_text.specs.Progress.{left_by};
-ghost use Rattle.graph_text.specs.declared.refusal.Why.TheVariants.{LongLine, BadCount, BadFields, BadWeight, BadRange, RepeatedEdge, TooManyConstraints, ShortConstraint, Cycle, UnknownEdge, Unconserved};
+ghost use Rattle.report_terms.specs.declared.refusal.Why.TheVariants.{LongLine, BadCount, BadFields, BadWeight, BadRange, RepeatedEdge, TooManyConstraints, ShortConstraint, Cycle, UnknownEdge, Unconserved};
 ghost use Rattle.graph_text.specs.Examples.{reads, run_lines};
 
 /// Lines end with a line feed or with the text, and fields with blanks; what stands in the block and the line in progress.

@@ -14,7 +14,6 @@ mod labels;
 mod laws;
 mod open_line;
 mod reader;
-mod refusal;
 
 pub use accepted::{blocks_have_whole_lines, graphs_are_accepted};
 pub use block::{Block, RawGraph};
@@ -24,4 +23,4 @@ pub use examples::{
 pub use labels::Labels;
 pub use laws::{blocks_of_texts, complete_blocks_stay, refusals_name_lines};
 pub use reader::BlockReader;
-pub use refusal::{Refusal, Why};
+pub use report_terms::{Refusal, Why};

@@ -3,8 +3,9 @@
 use crate::blocks::labels_of;
 use flow_io::MemOutput;
 use graph_text::Labels;
-use path_report::ReadWhy::{BadForm, BadName, BadNumber, BadOrder, NoEnd};
-use path_report::{ReadFault, ReadWhy, read_report, write_report};
+use report_reading::ReadWhy::{BadForm, BadName, BadNumber, BadOrder, NoEnd};
+use path_report::write_report;
+use report_reading::{ReadFault, ReadWhy, read_report};
 use std::alloc::Global;
 use std::test::Fail;
 

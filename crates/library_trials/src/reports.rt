@@ -7,7 +7,7 @@ use cert_check::{Verdict, check_report};
 use dag_net::Net;
 use decomposition::{Mode, Side, Token};
 use graph_text::{Refusal, Why};
-use path_report::{Body, Mark};
+use report_terms::{Body, Mark};
 use std::test::Fail;
 
 /// Two paths from a source to a sink, as wide as these weights.

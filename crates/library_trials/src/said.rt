@@ -14,7 +14,7 @@ use dag_net::{Answer, IdLists, Ids, Net, Range, Ranges};
 use decomposition::{Decision, Mode, Side, Token};
 use flow_io::Bytes;
 use flow_models::Problem;
-use path_report::{Body, Cert, Mark, Report, Solved, Tokens, Trail};
+use report_terms::{Body, Cert, Mark, Report, Solved, Tokens, Trail};
 use std::alloc::{AllocError, Global};
 use std::test::Fail;
 

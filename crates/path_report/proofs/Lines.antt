@@ -1,12 +1,12 @@
 -- A line, word by word.
-use Rattle.std.proofs.Common.{◌≡◌, ℕ, ◌<◌, List, [], ◌∷◌, ◌++◌, length, get_or, sym, ◌∙◌, ap, append-nil, append_assoc, arith, refl, false, ◌==◌}
+use Rattle.std.proofs.Common.{◌≡◌, ℕ, ◌<◌, List, [], ◌∷◌, ◌++◌, length, get_or, sym, ◌∙◌, ap, append-nil, append_assoc, arith}
 use Rattle.std.specs.Prelude.{flat_map, map, codes, decimal}
 use Rattle.std.specs.List.{join_with_byte}
 use Rattle.std.proofs.lemmas.List.Folds.{flat_map-map}
 use Rattle.decomposition.specs.declared.Side.{Side}
 use Rattle.graph_text.specs.Labels.{LabelLists, name_at, tail_at, head_at}
-use Rattle.path_report.specs.Names.{names_along}
-use Rattle.path_report.specs.ReportText.{line, side_word, graph_line, path_line, run_line}
+use Rattle.report_reading.specs.Names.{names_along}
+use Rattle.report_reading.specs.ReportText.{line, side_word, path_line, run_line}
 use Rattle.path_report.specs.Sending.{spaced}
 
 join-fields : (word : List ℕ) (fields : List (List ℕ)) → join_with_byte 32 (word ∷ fields) ≡ word ++ flat_map spaced fields
@@ -18,16 +18,6 @@ pub line-of : {X : Type 0} (field : X → List ℕ) (word : List ℕ) (xs : List
     (word ++ flat_map (λ x. spaced (field x)) xs) ++ 10 ∷ [] ≡ line (word ∷ map field xs)
 line-of field word xs =
     ap (λ x. x ++ 10 ∷ []) (ap (λ x. word ++ x) (sym (flat_map-map spaced field xs)) ∙ sym (join-fields word (map field xs)))
-
--- the line of a block that has a name
-named : (index : ℕ) (name : List ℕ) → (length name == 0) ≡ false → line (codes "graph" ∷ decimal index ∷ name ∷ []) ≡ graph_line index name
-named index [] some = absurd (cc)
-named index (b ∷ name) some = refl
-
-pub graph_line-named : (index : ℕ) (digits given name : List ℕ) → digits ≡ decimal index → given ≡ name → (length given == 0) ≡ false →
-    line (codes "graph" ∷ digits ∷ given ∷ []) ≡ graph_line index name
-graph_line-named index digits given name d n some =
-    ap (λ x. line (codes "graph" ∷ x ∷ given ∷ [])) d ∙ named index given some ∙ ap (graph_line index) n
 
 -- the line of a path, by its parts
 pub path_line-parts : (labels : LabelLists) (path : List ℕ) (weight : ℕ) →

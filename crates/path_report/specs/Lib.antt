@@ -1,10 +1,1 @@
-pub mod Names
-pub mod ReportText
 pub mod Sending
-pub mod Laws
-pub mod Rows
-pub mod LineFields
-pub mod LineSteps
-pub mod ListSteps
-pub mod BadLines
-pub mod ReaderLaws

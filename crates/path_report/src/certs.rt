@@ -2,15 +2,15 @@
 ghost use Rattle.std.specs.Prelude.{◌<◌, length, flat_map, nat_lt, IsTrue, OnOk, OnErr};
 ghost use Rattle.std.specs.List.{list_all};
 ghost use Rattle.flow_io.specs.Outside.{HasCause};
-ghost use Rattle.path_report.specs.declared.report.Cert.TheVariants.{Wide, Cut, Crowd};
-ghost use Rattle.path_report.specs.ReportText.{edge_line, vertex_line, rule_line, cert_text, are_edges, are_vertices, is_cert};
+ghost use Rattle.report_terms.specs.declared.report.Cert.TheVariants.{Wide, Cut, Crowd};
+ghost use Rattle.report_reading.specs.ReportText.{edge_line, vertex_line, rule_line, cert_text, are_edges, are_vertices, is_cert};
 ghost use Rattle.path_report.specs.Sending.{Sends, Stops};
 
 use crate::digits::Digits;
 use crate::page::Page;
-use crate::report::Cert;
+use report_terms::Cert;
 use crate::trails::{put_place, put_trail};
-use crate::words::word_of_side;
+use report_reading::words::word_of_side;
 use decomposition::Side;
 use flow_io::{Fault, Output};
 use graph_text::Labels;

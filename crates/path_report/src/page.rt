@@ -1,7 +1,7 @@
 //! Bytes that are held back, so that they are written many at a time.
 ghost use Rattle.std.specs.Prelude.{◌≡◌, ◌+◌, ◌≤◌, [], ◌∷◌, ◌++◌, length, map, flat_map, decimal, OnOk, OnErr};
 ghost use Rattle.flow_io.specs.Outside.{HasCause};
-ghost use Rattle.path_report.specs.ReportText.{line};
+ghost use Rattle.report_reading.specs.ReportText.{line};
 ghost use Rattle.path_report.specs.Sending.{Sends, Stops, spaced};
 
 use crate::digits::Digits;

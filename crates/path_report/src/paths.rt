@@ -4,8 +4,8 @@ ghost use Rattle.std.specs.List.{list_all};
 ghost use Rattle.decomposition.specs.Graph.{is_run};
 ghost use Rattle.flow_io.specs.Outside.{HasCause};
 ghost use Rattle.graph_text.specs.Labels.{name_at, head_at};
-ghost use Rattle.path_report.specs.Names.{graph_at, names_along};
-ghost use Rattle.path_report.specs.ReportText.{path_line, run_line, safe_text, is_path_entry, are_runs, are_runs_or_none};
+ghost use Rattle.report_reading.specs.Names.{graph_at, names_along};
+ghost use Rattle.report_reading.specs.ReportText.{path_line, run_line, safe_text, is_path_entry, are_runs, are_runs_or_none};
 ghost use Rattle.path_report.specs.Sending.{Sends, Stops, spaced};
 
 use crate::digits::Digits;

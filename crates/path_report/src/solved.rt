@@ -1,16 +1,16 @@
 //! The lines of what was found for a graph.
 ghost use Rattle.std.specs.Prelude.{[], ◌∷◌, codes, IsTrue, OnOk, OnErr};
 ghost use Rattle.flow_io.specs.Outside.{HasCause};
-ghost use Rattle.path_report.specs.ReportText.{line, number_or_none, mark_word, marks_text, solved_text, is_regular_solved};
+ghost use Rattle.report_reading.specs.ReportText.{line, number_or_none, mark_word, marks_text, solved_text, is_regular_solved};
 ghost use Rattle.path_report.specs.Sending.{Sends, Stops};
 
 use crate::certs::put_cert;
 use crate::digits::Digits;
 use crate::page::Page;
 use crate::paths::{put_paths, put_safe};
-use crate::report::{Mark, Solved};
+use report_terms::{Mark, Solved};
 use crate::trails::put_trail_if_any;
-use crate::words::word_of;
+use report_reading::words::word_of;
 use flow_io::{Fault, Output};
 use graph_text::Labels;
 

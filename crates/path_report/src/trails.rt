@@ -1,12 +1,12 @@
 //! The lines of trails and of their tokens.
 ghost use Rattle.std.specs.Prelude.{◌+◌, [], ◌∷◌, ◌++◌, flat_map, decimal, OnOk, OnErr};
 ghost use Rattle.flow_io.specs.Outside.{HasCause};
-ghost use Rattle.path_report.specs.ReportText.{line, token_line, trail_fields, trail_text};
+ghost use Rattle.report_reading.specs.ReportText.{line, token_line, trail_fields, trail_text};
 ghost use Rattle.path_report.specs.Sending.{Sends, Stops};
 
 use crate::digits::Digits;
 use crate::page::Page;
-use crate::report::Trail;
+use report_terms::Trail;
 use decomposition::Token;
 use flow_io::{Fault, Output};
 

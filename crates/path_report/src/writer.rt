@@ -1,14 +1,14 @@
 //! The writer of reports.
 ghost use Rattle.std.specs.Prelude.{IsTrue, OnOk, OnErr};
 ghost use Rattle.flow_io.specs.Outside.{Adds, AddsPrefix, HasCause};
-ghost use Rattle.path_report.specs.ReportText.{graph_line, model_line, body_text, text_of, is_regular_body, is_regular};
+ghost use Rattle.report_reading.specs.ReportText.{graph_line, model_line, body_text, text_of, is_regular_body, is_regular};
 ghost use Rattle.path_report.specs.Sending.{Sends, Stops};
 
 use crate::digits::Digits;
 use crate::page::Page;
-use crate::report::{Body, Report};
+use report_terms::{Body, Report};
 use crate::solved::put_solved;
-use crate::words::name_of;
+use report_reading::words::name_of;
 use dag_net::Mode;
 use flow_io::{Fault, Output};
 use graph_text::Labels;

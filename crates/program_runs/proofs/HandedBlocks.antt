@@ -11,7 +11,7 @@ use Rattle.graph_text.specs.Reading.{read}
 use Rattle.graph_text.specs.declared.block.Block.{Block}
 use Rattle.graph_text.specs.declared.block.RawGraph.{RawGraph}
 use Rattle.graph_text.specs.declared.reader.BlockReader.{BlockReader}
-use Rattle.graph_text.specs.declared.refusal.Refusal.{Refusal}
+use Rattle.report_terms.specs.declared.refusal.Refusal.{Refusal}
 use Rattle.graph_text.proofs.Accepting.{graphs_are_accepted}
 use Rattle.graph_text.proofs.TextBlocks.{complete-block, blocks-block}
 use Rattle.program_runs.specs.HandedBlocks.{IsHandedFor, AreHandedFor, blocks_at}

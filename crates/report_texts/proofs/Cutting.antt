@@ -3,8 +3,9 @@ use Rattle.std.proofs.Common.{◌≡◌, ℕ, suc, true, false, List, [], ◌∷
 use Rattle.std.specs.Prelude.{not, ◌&&◌, nat_le, codes, flat_map}
 use Rattle.std.proofs.lemmas.Bool.{and_parts, not-true}
 use Rattle.graph_text.specs.Labels.{LabelLists}
-use Rattle.path_report.specs.ReportText.{begins_blank, ends_blank, fits, is_mode, is_name, is_regular, is_regular_body}
-use Rattle.path_report.specs.declared.report.Report.{Report}
+use Rattle.report_terms.specs.NetFacts.{is_mode}
+use Rattle.report_reading.specs.ReportText.{begins_blank, ends_blank, fits, is_name, is_regular, is_regular_body}
+use Rattle.report_terms.specs.declared.report.Report.{Report}
 use Rattle.report_texts.specs.Laws.{text_in, FirstTextsAreCutOff, TextsAreCutBack}
 use Rattle.report_texts.specs.ReportTexts.{end_line, report_texts, texts_in}
 use Rattle.report_texts.proofs.EndedLines.{has_feed, ended_lines-line}

@@ -14,20 +14,20 @@ use Rattle.decomposition.specs.declared.Side.TheVariants.{Entering, Leaving}
 use Rattle.decomposition.specs.declared.Token.{Token}
 use Rattle.decomposition.specs.declared.Token.TheVariants.{Gap, Miss, Split, Step}
 use Rattle.graph_text.specs.Labels.{LabelLists, AreLabels, name_at, tail_at, head_at, is_field}
-use Rattle.graph_text.specs.declared.refusal.Why.{Why}
-use Rattle.graph_text.specs.declared.refusal.Why.TheVariants.{LongLine, BadCount, BadFields, BadWeight, BadRange, RepeatedEdge, TooManyEdges, TooManyConstraints, ShortConstraint, Cycle, UnknownEdge, Unconserved}
-use Rattle.path_report.specs.Names.{names_along, vertices_at}
-use Rattle.path_report.specs.ReportText.{line, number_or_none, graph_line, model_line, why_word, mark_word, side_word, path_line, edge_line, run_line, vertex_line, rule_line, token_line, trail_fields, cert_text, trail_text, safe_text, marks_text, body_text}
-use Rattle.path_report.specs.declared.report.Body.{Body}
-use Rattle.path_report.specs.declared.report.Body.TheVariants.{Refused, Solved as SolvedBody}
-use Rattle.path_report.specs.declared.report.Cert.{Cert}
-use Rattle.path_report.specs.declared.report.Cert.TheVariants.{Zero, Wide, Tree, Cut, Crowd}
-use Rattle.path_report.specs.declared.report.Mark.{Mark}
-use Rattle.path_report.specs.declared.report.Mark.TheVariants.{Optimal, Infeasible, Bounds}
-use Rattle.path_report.specs.declared.report.Report.{Report}
-use Rattle.path_report.specs.declared.report.Solved.{Solved}
-use Rattle.path_report.specs.declared.report.Trail.{Trail}
-use Rattle.path_report.proofs.GoodFields.{field-clean}
+use Rattle.report_terms.specs.declared.refusal.Why.{Why}
+use Rattle.report_terms.specs.declared.refusal.Why.TheVariants.{LongLine, BadCount, BadFields, BadWeight, BadRange, RepeatedEdge, TooManyEdges, TooManyConstraints, ShortConstraint, Cycle, UnknownEdge, Unconserved}
+use Rattle.report_reading.specs.Names.{names_along, vertices_at}
+use Rattle.report_reading.specs.ReportText.{line, number_or_none, graph_line, model_line, why_word, mark_word, side_word, path_line, edge_line, run_line, vertex_line, rule_line, token_line, trail_fields, cert_text, trail_text, safe_text, marks_text, body_text}
+use Rattle.report_terms.specs.declared.report.Body.{Body}
+use Rattle.report_terms.specs.declared.report.Body.TheVariants.{Refused, Solved as SolvedBody}
+use Rattle.report_terms.specs.declared.report.Cert.{Cert}
+use Rattle.report_terms.specs.declared.report.Cert.TheVariants.{Zero, Wide, Tree, Cut, Crowd}
+use Rattle.report_terms.specs.declared.report.Mark.{Mark}
+use Rattle.report_terms.specs.declared.report.Mark.TheVariants.{Optimal, Infeasible, Bounds}
+use Rattle.report_terms.specs.declared.report.Report.{Report}
+use Rattle.report_terms.specs.declared.report.Solved.{Solved}
+use Rattle.report_terms.specs.declared.report.Trail.{Trail}
+use Rattle.report_reading.proofs.GoodFields.{field-clean}
 use Rattle.report_texts.specs.ReportTexts.{ended_lines, end_line, before_first_text, texts_in, report_texts}
 use Rattle.report_texts.proofs.EndedLines.{has_feed, ended_lines-line, join-feed, feed-more, feed-one, decimal-no_feed}
 

@@ -8,15 +8,16 @@ use Rattle.std.proofs.lemmas.Slice.Eq.{bytes_eq-Decides}
 use Rattle.decomposition.specs.declared.Mode.{Mode}
 use Rattle.decomposition.specs.declared.Mode.TheVariants.{Exact, Interval, Abs}
 use Rattle.graph_text.specs.Labels.{LabelLists, is_field}
-use Rattle.path_report.specs.LineFields.{spaced_fields}
-use Rattle.path_report.specs.LineSteps.{model_in as model_of_fields, given}
-use Rattle.path_report.specs.BadLines.{text_lines}
-use Rattle.path_report.specs.ReportText.{line, graph_line, model_line, body_text, text_of, is_mode}
-use Rattle.path_report.specs.declared.read_fault.ReadWhy.{ReadWhy}
-use Rattle.path_report.specs.declared.read_fault.ReadWhy.TheVariants.{BadNumber}
-use Rattle.path_report.specs.declared.report.Report.{Report}
-use Rattle.path_report.proofs.GoodFields.{spaced_fields-join, text_lines-line}
-use Rattle.path_report.proofs.Written.{decimal-field, number-written}
+use Rattle.report_reading.specs.LineFields.{spaced_fields}
+use Rattle.report_reading.specs.LineSteps.{model_in as model_of_fields, given}
+use Rattle.report_reading.specs.BadLines.{text_lines}
+use Rattle.report_terms.specs.NetFacts.{is_mode}
+use Rattle.report_reading.specs.ReportText.{line, graph_line, model_line, body_text, text_of}
+use Rattle.report_reading.specs.declared.read_fault.ReadWhy.{ReadWhy}
+use Rattle.report_reading.specs.declared.read_fault.ReadWhy.TheVariants.{BadNumber}
+use Rattle.report_terms.specs.declared.report.Report.{Report}
+use Rattle.report_reading.proofs.GoodFields.{spaced_fields-join, text_lines-line}
+use Rattle.report_reading.proofs.Written.{decimal-field, number-written}
 use Rattle.report_texts.specs.Laws.{ModelsAreTold}
 use Rattle.report_texts.specs.ReportTexts.{ended_lines, end_line, models, mode_of_line, first_of, second_of, model_in}
 use Rattle.report_texts.proofs.EndedLines.{has_feed, ended_lines-line, join-feed, decimal-no_feed}

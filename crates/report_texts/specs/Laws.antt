@@ -1,8 +1,8 @@
 -- What holds of texts of reports that stand one behind the other.
 use Rattle.std.specs.Prelude.{◌≡◌, List, ◌∷◌, ◌++◌, ℕ, All, IsTrue, flat_map, map}
 use Rattle.graph_text.specs.Labels.{LabelLists, AreLabels}
-use Rattle.path_report.specs.declared.report.Report.{Report}
-use Rattle.path_report.specs.ReportText.{is_regular, text_of}
+use Rattle.report_terms.specs.declared.report.Report.{Report}
+use Rattle.report_reading.specs.ReportText.{is_regular, text_of}
 use Rattle.report_texts.specs.ReportTexts.{report_texts, model_in}
 
 -- a report, and the labels that its text is written by

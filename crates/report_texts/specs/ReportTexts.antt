@@ -5,7 +5,7 @@ use Rattle.std.specs.Str.{bytes_eq}
 use Rattle.decomposition.specs.declared.Mode.{Mode}
 use Rattle.decomposition.specs.declared.Mode.TheVariants.{Exact, Interval, Abs}
 use Rattle.graph_text.specs.Lines.{onto_first}
-use Rattle.path_report.specs.ReportText.{line, model_line}
+use Rattle.report_reading.specs.ReportText.{line, model_line}
 
 -- the lines of a text, each with the line feed at its end; the last one may end with the text
 abbrev pub ended_lines : List ℕ → List (List ℕ)

@@ -1,6 +1,6 @@
 -- Each ending shows the lower bound in its own way.
 use Rattle.std.proofs.Common.{Some, None, length, refl, arith, subst}
-use Rattle.path_report.specs.declared.report.Mark.TheVariants.{Optimal, Bounds}
+use Rattle.report_terms.specs.declared.report.Mark.TheVariants.{Optimal, Bounds}
 use Rattle.flow_solver.specs.declared.counting.Finding.TheVariants.{Known}
 use Rattle.flow_solver.specs.Searched.{IsSolvedBy}
 use Rattle.flow_solver.proofs.Solved.{found_in, raised_at_known, raised_small, right_by_tree, right_by_trail, right_by_width}

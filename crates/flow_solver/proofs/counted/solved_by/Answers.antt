@@ -1,7 +1,7 @@
 -- Each finding is right in its own way.
 use Rattle.std.proofs.Common.{ℕ, List, Some, None, length, sym, subst, arith}
-use Rattle.path_report.specs.Laws.{IsFoundIn}
-use Rattle.path_report.specs.declared.report.Mark.TheVariants.{Bounds}
+use Rattle.report_terms.specs.NetFacts.{IsFoundIn}
+use Rattle.report_terms.specs.declared.report.Mark.TheVariants.{Bounds}
 use Rattle.flow_solver.specs.Right.{SolvedRight}
 use Rattle.flow_solver.specs.Searched.{IsSolvedBy}
 use Rattle.flow_solver.proofs.CountedRight.{said}

@@ -1,7 +1,7 @@
 -- A refutation of one path fewer than there are ends the searches.
 use Rattle.std.proofs.Common.{◌<◌, arith, subst}
 use Rattle.std.specs.Prelude.{IfSome}
-use Rattle.path_report.specs.declared.report.Trail.{Trail}
+use Rattle.report_terms.specs.declared.report.Trail.{Trail}
 use Rattle.flow_solver.specs.Searched.{IsRaised, StopsAt, floor_of}
 use Rattle.flow_solver.specs.declared.counting.Ending.TheVariants.{Width}
 use Rattle.flow_solver.proofs.Floors.{refuted_below}

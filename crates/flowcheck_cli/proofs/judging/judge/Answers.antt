@@ -1,6 +1,6 @@
 use Rattle.std.proofs.Common.{◌≤◌, subst, sym, ap, ◌+◌, arith, length}
-use Rattle.path_report.specs.BadLines.{first_bad_line, RefusesAs}
-use Rattle.path_report.specs.declared.read_fault.ReadRefusal.{ReadRefusal}
+use Rattle.report_reading.specs.BadLines.{first_bad_line, RefusesAs}
+use Rattle.report_reading.specs.declared.read_fault.ReadRefusal.{ReadRefusal}
 use Rattle.program_runs.specs.HandedBlocks.{labels_of}
 use Rattle.program_runs.proofs.HandedBlocks.{handed-accepted}
 use Rattle.flowcheck_cli.proofs.BadPlaces.{bad-place}

@@ -2,9 +2,9 @@ use Rattle.std.proofs.Common.{subst}
 use Rattle.std.specs.Prelude.{Result}
 use Rattle.graph_text.specs.Reading.{instance_of}
 use Rattle.graph_text.specs.declared.block.RawGraph.{RawGraph}
-use Rattle.graph_text.specs.declared.refusal.Refusal.{Refusal}
+use Rattle.report_terms.specs.declared.refusal.Refusal.{Refusal}
 use Rattle.graph_text.proofs.Accepting.{graphs_are_accepted}
-use Rattle.path_report.specs.BadLines.{IsTextOf}
+use Rattle.report_reading.specs.BadLines.{IsTextOf}
 use Rattle.cert_check.proofs.TrueReports.{body_is_true}
 use Rattle.program_runs.specs.HandedBlocks.{labels_of}
 use Rattle.flowcheck_cli.specs.Outcomes.{IsRightBody}

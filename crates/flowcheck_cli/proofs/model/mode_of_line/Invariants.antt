@@ -1,7 +1,7 @@
 use Rattle.std.proofs.Common.{◌≡◌, ◌<◌, ℕ, false}
 use Rattle.std.specs.Str.{bytes_eq}
 use Rattle.decomposition.specs.declared.Mode.TheVariants.{Abs}
-use Rattle.path_report.specs.ReportText.{model_line}
+use Rattle.report_reading.specs.ReportText.{model_line}
 use Rattle.flowcheck_cli.proofs.model.mode_of_line.Given as goal
 
 abbrev pub invariant-loop-k : goal.invariant-loop-k

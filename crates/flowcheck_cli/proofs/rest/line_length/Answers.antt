@@ -2,7 +2,7 @@ use Rattle.std.proofs.Common.{◌∙◌, sym, arith}
 use Rattle.std.specs.Prelude.{◌==◌}
 use Rattle.std.proofs.lemmas.List.Quantifiers.{position-Some}
 use Rattle.std.proofs.lemmas.List.Sums.{fails_before_first}
-use Rattle.path_report.proofs.Blanks.{place-missing}
+use Rattle.report_reading.proofs.Blanks.{place-missing}
 use Rattle.flowcheck_cli.proofs.TextCuts.{line-cut, line-whole}
 use Rattle.flowcheck_cli.proofs.rest.line_length.Goals as goal
 

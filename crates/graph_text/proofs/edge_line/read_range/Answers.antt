@@ -1,6 +1,6 @@
 use Rattle.std.proofs.Common.{Some, None, ltb, ◌∙◌, refl}
 use Rattle.std.proofs.lemmas.Bool.{cond-true, cond-false, lt-ltb, le-ltb}
-use Rattle.graph_text.specs.declared.refusal.Why.TheVariants.{BadRange}
+use Rattle.report_terms.specs.declared.refusal.Why.TheVariants.{BadRange}
 use Rattle.graph_text.proofs.EdgeFields.{no-weights, range-is, with-weights}
 use Rattle.graph_text.proofs.edge_line.read_range.Goals as goal
 

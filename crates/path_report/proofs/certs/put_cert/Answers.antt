@@ -1,7 +1,7 @@
 use Rattle.std.proofs.Common.{◌∙◌, ap, sym}
 use Rattle.std.proofs.lemmas.Result.{on_err_weaker}
-use Rattle.path_report.specs.declared.report.Cert.TheVariants.{Cut}
-use Rattle.path_report.specs.ReportText.{cert_text}
+use Rattle.report_terms.specs.declared.report.Cert.TheVariants.{Cut}
+use Rattle.report_reading.specs.ReportText.{cert_text}
 use Rattle.path_report.proofs.SendingLemmas.{Stops-equal}
 use Rattle.path_report.proofs.certs.put_cert.Goals as goal
 

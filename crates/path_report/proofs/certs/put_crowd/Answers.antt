@@ -2,7 +2,7 @@ use Rattle.std.proofs.Common.{◌∙◌, ap, length}
 use Rattle.std.specs.Prelude.{flat_map}
 use Rattle.std.proofs.lemmas.Result.{on_ok_weaker, on_err_weaker}
 use Rattle.graph_text.specs.Labels.{name_at}
-use Rattle.path_report.specs.ReportText.{rule_line}
+use Rattle.report_reading.specs.ReportText.{rule_line}
 use Rattle.path_report.proofs.Lines.{crowd_line-fields}
 use Rattle.path_report.proofs.SendingLemmas.{Sends-then, Stops-then, Stops-before, Sends-equal, Stops-equal, on_err}
 use Rattle.path_report.proofs.certs.put_crowd.Goals as goal

@@ -4,7 +4,7 @@ use Rattle.std.specs.List.{list_all}
 use Rattle.std.proofs.lemmas.Bool.{and_parts}
 use Rattle.std.proofs.lemmas.Result.{on_ok_weaker, on_err_weaker}
 use Rattle.decomposition.specs.Answer.{is_ordered}
-use Rattle.path_report.specs.ReportText.{vertex_line, fits}
+use Rattle.report_reading.specs.ReportText.{vertex_line, fits}
 use Rattle.path_report.proofs.Lines.{cut_line-fields}
 use Rattle.path_report.proofs.SendingLemmas.{Sends-then, Stops-then, Stops-before, Sends-equal, Stops-equal, on_err}
 use Rattle.path_report.proofs.certs.put_cut.Goals as goal

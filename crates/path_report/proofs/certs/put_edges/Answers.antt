@@ -1,6 +1,6 @@
 use Rattle.std.proofs.Common.{arith, length, nat_lt, ltb-true}
 use Rattle.decomposition.proofs.Root.{all-place}
-use Rattle.path_report.specs.ReportText.{edge_line}
+use Rattle.report_reading.specs.ReportText.{edge_line}
 use Rattle.path_report.proofs.SendingLemmas.{Sends-next, Stops-next, on_err}
 use Rattle.path_report.proofs.certs.put_edges.Goals as goal
 

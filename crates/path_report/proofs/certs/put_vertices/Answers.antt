@@ -1,7 +1,7 @@
 use Rattle.std.proofs.Common.{◌∷◌, [], ap, arith, length, nat_lt, ltb-true}
 use Rattle.std.specs.Prelude.{codes}
 use Rattle.decomposition.proofs.Root.{all-place}
-use Rattle.path_report.specs.ReportText.{line, vertex_line}
+use Rattle.report_reading.specs.ReportText.{line, vertex_line}
 use Rattle.path_report.proofs.SendingLemmas.{Sends-next, Stops-next, Sends-equal, Stops-equal, on_err}
 use Rattle.path_report.proofs.certs.put_vertices.Goals as goal
 

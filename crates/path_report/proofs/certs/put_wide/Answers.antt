@@ -4,7 +4,7 @@ use Rattle.std.specs.List.{list_all}
 use Rattle.std.proofs.lemmas.Bool.{and_parts}
 use Rattle.std.proofs.lemmas.Result.{on_ok_weaker, on_err_weaker}
 use Rattle.decomposition.specs.Answer.{is_ordered}
-use Rattle.path_report.specs.ReportText.{line, edge_line, fits}
+use Rattle.report_reading.specs.ReportText.{line, edge_line, fits}
 use Rattle.path_report.proofs.SendingLemmas.{Sends-then, Stops-then, Stops-before, Sends-equal, Stops-equal, on_err}
 use Rattle.path_report.proofs.certs.put_wide.Goals as goal
 

@@ -1,8 +1,8 @@
 use Rattle.std.proofs.Common.{◌∙◌, arith, ap, sym, subst, [], IsTrue}
 use Rattle.decomposition.specs.Graph.{is_run}
 use Rattle.decomposition.proofs.Root.{all-place}
-use Rattle.path_report.specs.Names.{graph_at}
-use Rattle.path_report.specs.ReportText.{run_line}
+use Rattle.report_reading.specs.Names.{graph_at}
+use Rattle.report_reading.specs.ReportText.{run_line}
 use Rattle.path_report.proofs.SendingLemmas.{Sends-next, Stops-next, Sends-equal, Stops-equal, on_err}
 use Rattle.path_report.proofs.paths.put_each_run.Goals as goal
 

@@ -1,6 +1,6 @@
 use Rattle.std.proofs.Common.{◌≤◌, take}
 use Rattle.std.specs.Prelude.{flat_map}
-use Rattle.path_report.specs.ReportText.{run_line}
+use Rattle.report_reading.specs.ReportText.{run_line}
 use Rattle.path_report.specs.Sending.{Sends}
 use Rattle.path_report.proofs.paths.put_each_run.Given as goal
 

@@ -1,6 +1,6 @@
 use Rattle.std.proofs.Common.{arith, ap}
 use Rattle.graph_text.specs.Labels.{name_at, head_at}
-use Rattle.path_report.specs.Names.{graph_at}
+use Rattle.report_reading.specs.Names.{graph_at}
 use Rattle.path_report.specs.Sending.{spaced}
 use Rattle.decomposition.proofs.Runs.{run-place}
 use Rattle.path_report.proofs.SendingLemmas.{Sends-next, Stops-next, Sends-equal, Stops-equal, on_err}

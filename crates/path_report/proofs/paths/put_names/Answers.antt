@@ -2,7 +2,7 @@ use Rattle.std.proofs.Common.{ap}
 use Rattle.std.specs.Prelude.{flat_map}
 use Rattle.std.proofs.lemmas.Result.{on_ok_weaker, on_err_weaker}
 use Rattle.graph_text.specs.Labels.{name_at, head_at}
-use Rattle.path_report.specs.Names.{graph_at}
+use Rattle.report_reading.specs.Names.{graph_at}
 use Rattle.path_report.specs.Sending.{spaced}
 use Rattle.path_report.proofs.Lines.{names_along-run}
 use Rattle.decomposition.proofs.Runs.{run-place, run-length}

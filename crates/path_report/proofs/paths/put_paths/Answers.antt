@@ -2,8 +2,8 @@ use Rattle.std.proofs.Common.{◌∙◌, arith, get_or, sym, subst, [], IsTrue}
 use Rattle.std.proofs.lemmas.Bool.{and_parts}
 use Rattle.decomposition.specs.Graph.{is_run}
 use Rattle.decomposition.proofs.Root.{all-place}
-use Rattle.path_report.specs.Names.{graph_at}
-use Rattle.path_report.specs.ReportText.{path_line, is_path_entry}
+use Rattle.report_reading.specs.Names.{graph_at}
+use Rattle.report_reading.specs.ReportText.{path_line, is_path_entry}
 use Rattle.path_report.proofs.Lines.{path_line-entry}
 use Rattle.path_report.proofs.SendingLemmas.{Sends-next, Stops-next, Sends-equal, Stops-equal, on_err}
 use Rattle.path_report.proofs.paths.put_paths.Goals as goal

@@ -1,7 +1,7 @@
 use Rattle.std.proofs.Common.{◌∷◌, []}
 use Rattle.std.specs.Prelude.{flat_map}
 use Rattle.std.proofs.lemmas.Result.{on_ok_weaker, on_err_weaker}
-use Rattle.path_report.specs.Names.{names_along}
+use Rattle.report_reading.specs.Names.{names_along}
 use Rattle.path_report.specs.Sending.{spaced}
 use Rattle.path_report.proofs.Lines.{run_line-parts}
 use Rattle.path_report.proofs.SendingLemmas.{Sends-then, Stops-then, Stops-before, Sends-equal, Stops-equal, on_err}

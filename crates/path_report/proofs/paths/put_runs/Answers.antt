@@ -5,8 +5,8 @@ use Rattle.std.proofs.lemmas.Bool.{and_parts}
 use Rattle.std.proofs.lemmas.Result.{on_ok_weaker, on_err_weaker}
 use Rattle.decomposition.specs.Graph.{is_run, is_list_before}
 use Rattle.decomposition.specs.Answer.{is_ordered}
-use Rattle.path_report.specs.Names.{graph_at}
-use Rattle.path_report.specs.ReportText.{line, run_line, fits}
+use Rattle.report_reading.specs.Names.{graph_at}
+use Rattle.report_reading.specs.ReportText.{line, run_line, fits}
 use Rattle.path_report.proofs.SendingLemmas.{Sends-then, Stops-then, Stops-before, Sends-equal, Stops-equal, on_err}
 use Rattle.path_report.proofs.paths.put_runs.Goals as goal
 

@@ -1,7 +1,7 @@
 use Rattle.std.proofs.Common.{◌∷◌, []}
 use Rattle.std.specs.Prelude.{codes}
 use Rattle.std.proofs.lemmas.Result.{on_ok_weaker, on_err_weaker}
-use Rattle.path_report.specs.ReportText.{line, number_or_none}
+use Rattle.report_reading.specs.ReportText.{line, number_or_none}
 use Rattle.path_report.proofs.SendingLemmas.{Sends-then, Stops-then, Stops-before, on_err}
 use Rattle.path_report.proofs.solved.put_marks.Goals as goal
 

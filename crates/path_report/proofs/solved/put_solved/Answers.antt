@@ -1,7 +1,7 @@
 use Rattle.std.specs.Prelude.{flat_map}
 use Rattle.std.proofs.lemmas.Result.{on_ok_weaker, on_err_weaker}
-use Rattle.path_report.specs.ReportText.{path_line, cert_text, trail_text, safe_text}
-use Rattle.path_report.proofs.Regular.{solved-parts}
+use Rattle.report_reading.specs.ReportText.{path_line, cert_text, trail_text, safe_text}
+use Rattle.report_reading.proofs.Regular.{solved-parts}
 use Rattle.path_report.proofs.SendingLemmas.{Sends-then, Stops-then, Stops-before, on_err}
 use Rattle.path_report.proofs.solved.put_solved.Goals as goal
 

@@ -1,5 +1,5 @@
 use Rattle.std.proofs.Common.{arith}
-use Rattle.path_report.specs.ReportText.{token_line}
+use Rattle.report_reading.specs.ReportText.{token_line}
 use Rattle.path_report.proofs.SendingLemmas.{Sends-next, Stops-next, on_err}
 use Rattle.path_report.proofs.trails.put_tokens.Goals as goal
 

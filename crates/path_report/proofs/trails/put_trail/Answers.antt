@@ -1,7 +1,7 @@
 use Rattle.std.proofs.Common.{ap}
 use Rattle.std.specs.Prelude.{flat_map}
 use Rattle.std.proofs.lemmas.Result.{on_ok_weaker, on_err_weaker}
-use Rattle.path_report.specs.ReportText.{token_line}
+use Rattle.report_reading.specs.ReportText.{token_line}
 use Rattle.path_report.proofs.SendingLemmas.{Sends-then, Stops-then, Stops-before, Sends-equal, Stops-equal, on_err}
 use Rattle.path_report.proofs.trails.put_trail.Goals as goal
 

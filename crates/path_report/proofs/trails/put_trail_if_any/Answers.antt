@@ -1,6 +1,6 @@
 use Rattle.std.proofs.Common.{ap, sym}
 use Rattle.std.proofs.lemmas.Result.{on_err_weaker}
-use Rattle.path_report.specs.ReportText.{trail_text}
+use Rattle.report_reading.specs.ReportText.{trail_text}
 use Rattle.path_report.proofs.SendingLemmas.{Stops-equal}
 use Rattle.path_report.proofs.trails.put_trail_if_any.Goals as goal
 

@@ -1,6 +1,6 @@
 use Rattle.std.proofs.Common.{ap}
 use Rattle.std.proofs.lemmas.Result.{on_err_weaker}
-use Rattle.path_report.specs.ReportText.{number_or_none}
+use Rattle.report_reading.specs.ReportText.{number_or_none}
 use Rattle.path_report.proofs.SendingLemmas.{Stops-equal}
 use Rattle.path_report.proofs.trails.put_trail_line.Goals as goal
 

@@ -1,6 +1,6 @@
 use Rattle.std.proofs.Common.{ap, sym}
 use Rattle.std.proofs.lemmas.Result.{on_err_weaker}
-use Rattle.path_report.specs.ReportText.{body_text}
+use Rattle.report_reading.specs.ReportText.{body_text}
 use Rattle.path_report.proofs.SendingLemmas.{Stops-equal}
 use Rattle.path_report.proofs.writer.put_body.Goals as goal
 

@@ -1,6 +1,6 @@
 use Rattle.std.proofs.Common.{◌∙◌, sym}
 use Rattle.std.proofs.lemmas.Result.{on_err_weaker}
-use Rattle.path_report.proofs.Lines.{graph_line-named}
+use Rattle.report_reading.proofs.GraphLine.{graph_line-named}
 use Rattle.path_report.proofs.SendingLemmas.{Stops-equal}
 use Rattle.path_report.proofs.writer.put_graph.Goals as goal
 

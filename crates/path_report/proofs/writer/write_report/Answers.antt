@@ -1,7 +1,7 @@
 use Rattle.std.proofs.Common.{◌∷◌, []}
 use Rattle.std.specs.Prelude.{codes}
-use Rattle.path_report.specs.ReportText.{line, model_line, body_text}
-use Rattle.path_report.proofs.Regular.{body-part}
+use Rattle.report_reading.specs.ReportText.{line, model_line, body_text}
+use Rattle.report_reading.proofs.Regular.{body-part}
 use Rattle.path_report.proofs.SendingLemmas.{Sends-then, Stops-then, Stops-before, AddsPrefix-sent, ok_sent, err_sent, on_err}
 use Rattle.path_report.proofs.writer.write_report.Goals as goal
 

@@ -3,7 +3,7 @@ use Rattle.std.specs.Prelude.{AllPairs, Result}
 use Rattle.std.proofs.lemmas.Result.{IfOk-weaker}
 use Rattle.decomposition.specs.declared.Mode.{Mode}
 use Rattle.graph_text.specs.declared.block.RawGraph.{RawGraph}
-use Rattle.graph_text.specs.declared.refusal.Refusal.{Refusal}
+use Rattle.report_terms.specs.declared.refusal.Refusal.{Refusal}
 use Rattle.graph_text.specs.Constraints.{listing_of}
 use Rattle.graph_text.specs.Draft.{Drafts}
 use Rattle.graph_text.specs.DraftGraph.{HoldsEdges}

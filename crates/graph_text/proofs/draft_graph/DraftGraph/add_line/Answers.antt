@@ -7,7 +7,7 @@ use Rattle.graph_text.specs.LineFaults.{weights_in, fault_of_fields}
 use Rattle.graph_text.specs.Reading.{Line, ends_of, range_in, range_of}
 use Rattle.graph_text.specs.ShownLine.{ShowsLine}
 use Rattle.graph_text.specs.DraftGraph.{HoldsEdges}
-use Rattle.graph_text.specs.declared.refusal.Why.{Why}
+use Rattle.report_terms.specs.declared.refusal.Why.{Why}
 use Rattle.decomposition.specs.declared.Mode.{Mode}
 use Rattle.graph_text.proofs.draft_graph.DraftGraph.add_line.Goals as goal
 

@@ -1,8 +1,0 @@
--- by computation
-use Rattle.std.proofs.Common.{refl}
-use Rattle.std.specs.Fmt.{digits}
-use Rattle.path_report.proofs.examples.bad_lines_by_example.Goals as goal
-
-pub returns : goal.returns
-unfolding digits
-returns c = record { right = refl; refused = refl; form = refl; behind = refl; number = refl; name = refl; order = refl; cut = refl }

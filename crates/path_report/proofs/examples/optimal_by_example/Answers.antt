@@ -1,8 +1,0 @@
--- by computation
-use Rattle.std.proofs.Common.{refl}
-use Rattle.std.specs.Fmt.{digits}
-use Rattle.path_report.proofs.examples.optimal_by_example.Goals as goal
-
-pub returns : goal.returns
-unfolding digits
-returns c = record { text = refl; regular = refl; strange = refl }

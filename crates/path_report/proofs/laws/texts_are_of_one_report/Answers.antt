@@ -1,5 +1,0 @@
-use Rattle.path_report.proofs.Complete.{texts_are_of_one_report}
-use Rattle.path_report.proofs.laws.texts_are_of_one_report.Goals as goal
-
-pub returns : goal.returns
-returns c = texts_are_of_one_report

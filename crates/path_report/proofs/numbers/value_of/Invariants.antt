@@ -1,6 +1,0 @@
-use Rattle.std.proofs.Common.{◌≡◌, ◌<◌, ◌^◌, take}
-use Rattle.graph_text.specs.Reading.{number_of}
-use Rattle.path_report.proofs.numbers.value_of.Given as goal
-
-abbrev pub invariant-loop-digit : goal.invariant-loop-digit
-invariant-loop-digit l = (l.value ≡ number_of (take l.digit-index l.digits)) × (l.value < 2 ^ 64)

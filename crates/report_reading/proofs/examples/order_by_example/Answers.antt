@@ -1,0 +1,8 @@
+-- by computation
+use Rattle.std.proofs.Common.{refl}
+use Rattle.std.specs.Fmt.{digits}
+use Rattle.report_reading.proofs.examples.order_by_example.Goals as goal
+
+pub returns : goal.returns
+unfolding digits
+returns c = record { text = refl; falling = refl; rising = refl; equal = refl; twice = refl }
