@@ -1,5 +1,5 @@
 //! What a search gives that is trusted for nothing: it counts only after it was checked.
-ghost use Rattle.std.specs.Prelude.{◌≡◌, ◌≤◌, ◌↔◌, nat_le, length, IfOk, IfSome, IsTrue};
+ghost use Rattle.std.specs.Prelude.{◌≡◌, ◌≤◌, ◌↔◌, nat_le, length, IfNone, IfOk, IfSome, IsTrue};
 ghost use Rattle.std.specs.List.{list_all};
 ghost use Rattle.decomposition.specs.declared.Mode.{Mode as AMode};
 ghost use Rattle.decomposition.specs.Certificates.{IsWithin};
@@ -35,7 +35,7 @@ fn are_light(answer: &Answer, cap: u64) -> bool
 fn settles(net: &Net, problem: &Problem, decision: Decision, answer: &Answer) -> bool
     requires ranged { length problem.now.ranges ≡ edge_count net.now }
     requires cap { problem.now.cap ≡ greatest_hi problem.now.ranges }
-    ensures { IsTrue result → Settles (instance net.now problem.now) decision answer.now }
+    ensures { IsTrue result ↔ Settles (instance net.now problem.now) decision answer.now }
 {
     answer.len() <= decision.slots as usize
         && are_paths(net, answer)
@@ -54,7 +54,7 @@ fn is_within(limit: Option<u64>, error: u128) -> bool
     }
 }
 
-/// What was found, in report order and no path twice, where it settles the decision.
+/// What was found, in report order and no path twice, where it settles the decision; nothing is dropped that does.
 pub fn checked_answer(
     alloc: Global,
     net: &Net,
@@ -65,7 +65,8 @@ pub fn checked_answer(
     requires valid { (mode : AMode) × IsInstance mode (instance net.now problem.now) }
     requires cap { problem.now.cap ≡ greatest_hi problem.now.ranges }
     requires few { decision.slots ≤ 8192 }
-    ensures { IfOk result (λ kept. IfSome kept (IsFoundFor (instance net.now problem.now) decision)) }
+    ensures right { IfOk result (λ kept. IfSome kept (IsFoundFor (instance net.now problem.now) decision)) }
+    ensures dropped { IfOk result (λ kept. IfNone kept (IfSome found (λ answer. Settles (instance net.now problem.now) decision answer → ⊥))) }
 {
     let Some(answer) = found else {
         return Ok(None);

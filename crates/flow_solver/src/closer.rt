@@ -1,5 +1,5 @@
 //! Closer bounds on the number of paths, by a search that is trusted for nothing.
-ghost use Rattle.std.specs.Prelude.{◌≡◌, ◌≤◌, ◌<◌, Some, length, IfOk, IfSome, IsTrue};
+ghost use Rattle.std.specs.Prelude.{◌≡◌, ◌↔◌, ◌≤◌, ◌<◌, Some, length, IfOk, IfSome, IsTrue};
 ghost use Rattle.decomposition.specs.declared.Mode.TheVariants.{Interval};
 ghost use Rattle.decomposition.specs.Instance.{IsInstance, greatest_hi};
 ghost use Rattle.flow_models.specs.Problem.{instance};
@@ -72,7 +72,7 @@ fn raised_by(
 
 /// Whether a decision asks for no error, and for as many paths as the width or more, and at most so many.
 fn is_raising(decision: Decision, width: usize, most: u32) -> bool
-    ensures { IsTrue result → (decision.limit ≡ Some 0) × (width ≤ decision.slots) × (decision.slots ≤ most) }
+    ensures { IsTrue result ↔ (decision.limit ≡ Some 0) × (width ≤ decision.slots) × (decision.slots ≤ most) }
 {
     decision.limit == Some(0) && width <= decision.slots as usize && decision.slots <= most
 }
