@@ -93,8 +93,8 @@ pub fn wide_flow(alloc: Global, net: &Net, ranges: &[Range]) -> Result<FlowOrCut
     wide_flow_near(alloc, net, ranges, &[])
 }
 
-/// A flow within the ranges, or a cut, from the numbers that are known.
-fn wide_flow_near(
+/// The same as [`bounded_flow_near`], for ranges with upper bounds that are 4,096 times as great.
+pub fn wide_flow_near(
     alloc: Global,
     net: &Net,
     ranges: &[Range],
