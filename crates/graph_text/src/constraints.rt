@@ -8,9 +8,9 @@ ghost use Rattle.graph_text.specs.ShownLine.{ShowsLine};
 
 use crate::fields::fields;
 use crate::labels::Labels;
-use report_terms::Why;
 use dag_net::{IdLists, Ids};
 use flow_io::Bytes;
+use report_terms::Why;
 use std::alloc::{AllocError, Global};
 use std::marker::Model;
 
