@@ -8,8 +8,8 @@ ghost use Rattle.flowcheck_cli.specs.Short.{HasFewLines, IsSmall};
 use cert_check::{Verdict, check_report};
 use dag_net::Mode;
 use graph_text::{Block, RawGraph, Refusal};
-use report_terms::{Body, Report};
 use program_runs::problem_of;
+use report_terms::{Body, Report};
 use std::alloc::{AllocError, Global};
 
 /// What a report is for a block and the model for reading. Lines are counted in the text of the report.

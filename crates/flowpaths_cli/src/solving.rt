@@ -8,8 +8,8 @@ ghost use Rattle.flowpaths_cli.specs.Solving.{AreForSolving, IsRegularFor, IsRep
 use crate::settings::Settings;
 use flow_solver::solve;
 use graph_text::RawGraph;
-use report_terms::Solved;
 use program_runs::problem_of;
+use report_terms::Solved;
 use std::alloc::{AllocError, Global};
 
 /// Solves a graph. A report of the answer is accepted by a check of its certificate, and has a text for all labels that have the edges of the net and a name for

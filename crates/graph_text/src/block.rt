@@ -1,9 +1,9 @@
 //! Blocks of a graph text, and the graphs that they are read as.
 
 use crate::labels::Labels;
-use report_terms::Refusal;
 use dag_net::{IdLists, Net, Ranges};
 use flow_io::Bytes;
+use report_terms::Refusal;
 
 /// A graph as it was read: its names, its net, the range of each edge, and the runs that must be covered.
 #[derive(Drop)]

@@ -9,9 +9,9 @@ ghost use Rattle.graph_text.specs.ShownLine.{ShowsLine};
 
 use crate::fields::fields;
 use crate::labels::Labels;
-use report_terms::Why;
 use dag_net::{IdLists, Ids};
 use indexmap::IndexMap;
+use report_terms::Why;
 use std::alloc::{AllocError, Global};
 use std::marker::Model;
 

@@ -11,8 +11,8 @@ use crate::block::RawGraph;
 use crate::constraints::Constraints;
 use crate::draft_graph::DraftGraph;
 use crate::fields::{fields, is_blank_text, is_count, is_hash_text, is_run_text};
-use report_terms::{Refusal, Why};
 use dag_net::Mode;
+use report_terms::{Refusal, Why};
 use std::alloc::{AllocError, Global};
 
 /// The refusal of a line with this fault.

@@ -18,8 +18,8 @@ use crate::constraints::Constraints;
 use crate::edge_line::read_range;
 use crate::fields::fields;
 use crate::labels::Labels;
-use report_terms::{Refusal, Why};
 use dag_net::{BuildFault, Mode, Net, Range, Ranges};
+use report_terms::{Refusal, Why};
 use std::alloc::{AllocError, Global};
 
 /// The most edges of a block.

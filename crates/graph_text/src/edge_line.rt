@@ -5,8 +5,8 @@ ghost use Rattle.graph_text.specs.LineFaults.{weights_in, fault_of_fields};
 ghost use Rattle.graph_text.specs.Reading.{weights_of, range_in, most_weight};
 
 use crate::fields::parse_weight;
-use report_terms::Why;
 use dag_net::{Mode, Range};
+use report_terms::Why;
 
 /// How many weights an edge line ends with.
 fn weights_of(mode: Mode) -> usize

@@ -3,8 +3,8 @@
 use crate::blocks::labels_of;
 use flow_io::MemOutput;
 use graph_text::Labels;
-use report_reading::ReadWhy::{BadForm, BadName, BadNumber, BadOrder, NoEnd};
 use path_report::write_report;
+use report_reading::ReadWhy::{BadForm, BadName, BadNumber, BadOrder, NoEnd};
 use report_reading::{ReadFault, ReadWhy, read_report};
 use std::alloc::Global;
 use std::test::Fail;

@@ -8,12 +8,12 @@ ghost use Rattle.path_report.specs.Sending.{Sends, Stops};
 
 use crate::digits::Digits;
 use crate::page::Page;
-use report_terms::Cert;
 use crate::trails::{put_place, put_trail};
-use report_reading::words::word_of_side;
 use decomposition::Side;
 use flow_io::{Fault, Output};
 use graph_text::Labels;
+use report_reading::words::word_of_side;
+use report_terms::Cert;
 
 /// The line of a certificate, and those of its items.
 pub fn put_cert<O: Output>(

@@ -8,11 +8,11 @@ use crate::certs::put_cert;
 use crate::digits::Digits;
 use crate::page::Page;
 use crate::paths::{put_paths, put_safe};
-use report_terms::{Mark, Solved};
 use crate::trails::put_trail_if_any;
-use report_reading::words::word_of;
 use flow_io::{Fault, Output};
 use graph_text::Labels;
+use report_reading::words::word_of;
+use report_terms::{Mark, Solved};
 
 /// The mark and the bounds, the paths, the certificate, the trail, and the safe runs.
 pub fn put_solved<O: Output>(

@@ -6,9 +6,9 @@ ghost use Rattle.path_report.specs.Sending.{Sends, Stops};
 
 use crate::digits::Digits;
 use crate::page::Page;
-use report_terms::Trail;
 use decomposition::Token;
 use flow_io::{Fault, Output};
+use report_terms::Trail;
 
 /// The lines of a trail, where it is there.
 pub fn put_trail_if_any<O: Output>(

@@ -6,12 +6,12 @@ ghost use Rattle.path_report.specs.Sending.{Sends, Stops};
 
 use crate::digits::Digits;
 use crate::page::Page;
-use report_terms::{Body, Report};
 use crate::solved::put_solved;
-use report_reading::words::name_of;
 use dag_net::Mode;
 use flow_io::{Fault, Output};
 use graph_text::Labels;
+use report_reading::words::name_of;
+use report_terms::{Body, Report};
 
 /// Writes the text of a report. After a fault a beginning of it was added. Takes no memory.
 pub fn write_report<O: Output>(out: &mut O, report: &Report, labels: &Labels) -> Result<(), Fault>

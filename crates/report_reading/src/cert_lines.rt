@@ -10,11 +10,11 @@ use crate::numbers::{number_in, place_in};
 use crate::order::is_above;
 use crate::read_fault::LineFault::{self, Bad};
 use crate::read_fault::ReadWhy::{BadForm, BadName, BadNumber, BadOrder};
-use report_terms::Cert;
 use crate::trail_lines::{token_in, trail_in};
 use dag_net::Ids;
 use decomposition::Side;
 use graph_text::Labels;
+use report_terms::Cert;
 use std::alloc::Global;
 
 /// A certificate without its items, and the number of them.

@@ -2,10 +2,9 @@
 ghost use Rattle.std.specs.Prelude.{◌≡◌};
 ghost use Rattle.report_reading.specs.BadLines.{empty_draft, drafted_body, drafted};
 
-use report_terms::{Body, Cert, Mark, Report, Solved};
 use dag_net::{Answer, Mode};
 use flow_io::Bytes;
-use report_terms::Refusal;
+use report_terms::{Body, Cert, Mark, Refusal, Report, Solved};
 use std::alloc::Global;
 
 /// What the next line of a text is to be. In a list it is the first of so many lines, one or more.

@@ -10,11 +10,10 @@ use crate::fields::{field_at, has_byte, has_words};
 use crate::numbers::{limit_in, number_in, penalty_in};
 use crate::read_fault::LineFault::{self, Bad};
 use crate::read_fault::ReadWhy::{BadForm, BadNumber};
-use report_terms::Mark;
 use crate::words::why_in;
 use dag_net::Mode;
 use flow_io::Bytes;
-use report_terms::Refusal;
+use report_terms::{Mark, Refusal};
 use std::alloc::Global;
 
 /// Whether a byte is a space or a tab.

@@ -6,8 +6,8 @@ ghost use Rattle.report_reading.specs.BadLines.{step, at_last, read_from, empty_
 
 use crate::draft::{Draft, Place};
 use crate::read_fault::{LineFault, ReadFault, ReadRefusal, ReadWhy};
-use report_terms::Report;
 use graph_text::Labels;
+use report_terms::Report;
 use std::alloc::Global;
 
 /// The report whose text this is.

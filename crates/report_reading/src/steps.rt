@@ -13,10 +13,10 @@ use crate::numbers::number_in;
 use crate::path_lines::{path_after, run_after};
 use crate::read_fault::LineFault::{self, Bad};
 use crate::read_fault::ReadWhy::{BadForm, BadNumber};
-use report_terms::Mark;
 use crate::trail_lines::{token_in, trail_in};
 use dag_net::IdLists;
 use graph_text::Labels;
+use report_terms::Mark;
 use std::alloc::Global;
 
 /// The place after a certificate.

@@ -8,9 +8,8 @@ use crate::fields::{field_at, has_words};
 use crate::numbers::{decision_in, number_in, place_in};
 use crate::read_fault::LineFault::{self, Bad};
 use crate::read_fault::ReadWhy::{BadForm, BadNumber};
-use report_terms::Trail;
-use report_terms::Tokens;
 use decomposition::Token;
+use report_terms::{Tokens, Trail};
 use std::alloc::Global;
 
 /// A trail without its tokens, and the number of them.

@@ -3,9 +3,8 @@ ghost use Rattle.std.specs.Prelude.{◌≡◌};
 ghost use Rattle.report_reading.specs.ReportText.{mark_word, side_word, why_word};
 ghost use Rattle.report_reading.specs.LineFields.{why_in};
 
-use report_terms::Mark;
 use decomposition::Side;
-use report_terms::Why;
+use report_terms::{Mark, Why};
 
 /// The word of a mark.
 pub fn word_of(mark: Mark) -> &'static [u8]
