@@ -34,7 +34,7 @@ and for `measure`
     --timeout S    seconds of the clock after which a run is ended; 600
 
 In the first table seconds are of processor time, so a busy machine makes no great difference, and peak memory is what the system notes of the program
-itself (VmHWM), looked at every two milliseconds: that of a run of a few milliseconds may be too low. Beside each report stand the seconds of the
+itself (VmHWM), looked at two thousand times a second: that of a run of a few milliseconds may be too low. Beside each report stand the seconds of the
 checker and its answer. The second table has the program's seconds by the number of edges. The status is 1 where a run fails or takes too long, where the
 checker says anything but yes, or where a bound leaves out the hidden paths; each of these is a line on standard error too.
 """
@@ -249,7 +249,7 @@ def run(command, target, limit):
             if time.monotonic() > latest and not ended:
                 process.kill()
                 ended = True
-            time.sleep(0.002)
+            time.sleep(0.0005)
             done, status, used = os.wait4(process.pid, os.WNOHANG)
         process.returncode = os.waitstatus_to_exitcode(status)
     with open(target, encoding="ascii") as output:
