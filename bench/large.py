@@ -56,7 +56,7 @@ MODELS = "exact,interval,abs"
 MOST_PATHS = 64
 FIRST_TABLE = "family", "edges", "constraints", "hidden paths", "model", "tokens", "mark", "lower", "upper", "seconds", "MB", "seconds to check", "checker"
 
-Graph = namedtuple("Graph", "family size paths weights rules model cap")
+Graph = namedtuple("Graph", "family size paths weights asked rules model cap")
 Run = namedtuple("Run", "output status seconds peak")
 
 
@@ -196,7 +196,7 @@ def graphs_of(options):
             cap = min(MOST_PATHS, len(paths)) if model == "abs" else None
             if not (count and cap and cap < len(paths)):
                 rules = rules_of(random.Random(f"{family} {size} rules"), paths, count)
-                yield Graph(family, size, paths, weights, rules, model, cap)
+                yield Graph(family, size, paths, weights, count, rules, model, cap)
 
 
 def words_of(graph):
@@ -232,7 +232,7 @@ def text_of(graph, given):
 def write(options):
     os.makedirs(options.folder, exist_ok=True)
     for graph in graphs_of(options):
-        file = os.path.join(options.folder, f"{graph.family}_{graph.size}_{len(graph.rules)}_{graph.model}.graph")
+        file = os.path.join(options.folder, f"{graph.family}_{graph.size}_{graph.asked}_{graph.model}.graph")
         with open(file, "w", encoding="ascii") as out:
             out.write(text_of(graph, given_of(graph)))
         for nodes in options.nodes:
@@ -273,7 +273,7 @@ def faults_of(solved, checked, hidden):
 
 
 def row_of(cells):
-    print("|", " | ".join(str(cell) for cell in cells), "|", flush=True)
+    print("|", " | ".join(f"{cell:,}" if isinstance(cell, int) else cell for cell in cells), "|", flush=True)
 
 
 def heading(cells):
@@ -300,10 +300,10 @@ def measured(graph, nodes, options, folder):
 def growth(seconds, sizes):
     """The second table: the seconds of each kind of graph, by the number of edges asked for."""
     print()
-    heading(["family", "constraints", "model", "tokens", *(f"{size} edges" for size in sizes)])
+    heading(["family", "constraints", "model", "tokens", *(f"{size:,} edges" for size in sizes)])
     for family, rules, model, nodes in dict.fromkeys(kind for kind, _ in seconds):
         cells = [f"{seconds[(family, rules, model, nodes), size]:.3f}" if ((family, rules, model, nodes), size) in seconds else "" for size in sizes]
-        row_of([family, "some" if rules else 0, model, nodes or "default", *cells])
+        row_of([family, rules, model, nodes or "default", *cells])
 
 
 def measure(options):
@@ -312,9 +312,9 @@ def measure(options):
     with tempfile.TemporaryDirectory() as folder:
         for graph, nodes in product(graphs_of(options), options.nodes):
             took, wrong = measured(graph, nodes, options, folder)
-            seconds[(graph.family, bool(graph.rules), graph.model, nodes), graph.size] = took
+            seconds[(graph.family, graph.asked, graph.model, nodes), graph.size] = took
             for fault in wrong:
-                print(f"{graph.family} {graph.size} {len(graph.rules)} {graph.model} {nodes or 'default'}: {fault}", file=sys.stderr)
+                print(f"{graph.family} {graph.size} {graph.asked} {graph.model} {nodes or 'default'}: {fault}", file=sys.stderr)
             faults += len(wrong)
     growth(seconds, options.edges)
     return 1 if faults else 0
