@@ -9,7 +9,7 @@ many as the kind says; so the net has a decomposition into that many paths, or i
 bytes. The kinds, each with the seeds 1, 2 and 3 where none is given:
 
     30, 40, 60            so many hidden paths, on some 200 edges; those of 60 meet often
-    300, 600, 900         so many over eight layers, on some 1,000, 2,000 and 3,000 edges; flowpaths refuses what is above its limit
+    300, 600, 900         so many over eight layers, on some 1,000, 2,000 and 3,000 edges
     PATHS,LAYERS,WIDTH    so many over so many layers of so many vertices
 
 A line of `run` has the kind and the seed, the edges, the number of hidden paths, the width, `lower` and `upper` of the report, its mark (or `refused`, or
