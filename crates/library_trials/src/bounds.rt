@@ -4,7 +4,7 @@ ghost use Rattle.std.specs.Prelude.{◌≡◌, ◌≤◌, ◌↔◌, ◌&&◌, n
 ghost use Rattle.std.specs.List.{list_all};
 
 use dag_net::{Net, Range};
-use lower_flow::{FlowOrCut, bounded_flow};
+use lower_flow::{FlowOrCut, bounded_flow, bounded_flow_near, wide_flow};
 use std::alloc::Global;
 use std::test::Fail;
 
@@ -20,6 +20,12 @@ enum Wanted {
 
 /// The greatest upper bound.
 const MOST: u64 = 1_000_000_000_000;
+
+/// What a flow may begin near: no numbers, too great ones, and more than there are edges.
+const NEAR: [&[u64]; 3] = [&[], &[7, u64::MAX], &[2, 2, 2, 2, 2, 2, 2, 2, 2, 2, 2, 2]];
+
+/// The greatest upper bound of a wide range.
+const WIDE: u64 = 4096 * MOST;
 
 /// How many vertices there are, the edges, and what must be answered.
 const ROWS: [(&str, u32, &[Bounded], Wanted); 9] = [
@@ -86,12 +92,10 @@ const ROWS: [(&str, u32, &[Bounded], Wanted); 9] = [
 ];
 
 /// Whether each range has its bounds in order, and none is too great.
-fn are_bounded(ranges: &[Range]) -> bool
-    ensures { result ≡ list_all (λ r. nat_le r.lo r.hi && nat_le r.hi 1000000000000) ranges.now }
+fn are_bounded(ranges: &[Range], most: u64) -> bool
+    ensures { result ≡ list_all (λ r. nat_le r.lo r.hi && nat_le r.hi most) ranges.now }
 {
-    ranges
-        .iter()
-        .all(|r| r.lo <= r.hi && r.hi <= 1_000_000_000_000)
+    ranges.iter().all(|r| r.lo <= r.hi && r.hi <= most)
 }
 
 /// Whether no number is too great.
@@ -133,8 +137,14 @@ fn is_answered(
         return Err(Fail::new("a small net is wanted"));
     }
     let net = Net::build(alloc, vertices, &ends)?;
-    if ranges.len() != net.edges() as usize || !are_bounded(&ranges) {
+    if ranges.len() != net.edges() as usize || !are_bounded(&ranges, 1_000_000_000_000) {
         return Err(Fail::new("one range for each edge is wanted"));
+    }
+    for near in &NEAR {
+        let answer = bounded_flow_near(alloc, &net, &ranges, near)?;
+        if !is_of_kind(alloc, &net, &ranges, &answer, wanted)? {
+            return Ok(false);
+        }
     }
     match (bounded_flow(alloc, &net, &ranges)?, wanted) {
         (FlowOrCut::Flow(flow), Wanted::Flow) => is_flow(alloc, &net, &ranges, flow.as_slice()),
@@ -144,11 +154,41 @@ fn is_answered(
     }
 }
 
+/// Whether the answer is a flow, or a cut of the side that is wanted.
+fn is_of_kind(
+    alloc: Global,
+    net: &Net,
+    ranges: &[Range],
+    answer: &FlowOrCut,
+    wanted: &Wanted,
+) -> Result<bool, Fail> {
+    match (answer, wanted) {
+        (FlowOrCut::Flow(flow), Wanted::Flow) => is_flow(alloc, net, ranges, flow.as_slice()),
+        (FlowOrCut::InCut(_), Wanted::In(_)) | (FlowOrCut::OutCut(_), Wanted::Out(_)) => Ok(true),
+        _ => Ok(false),
+    }
+}
+
 #[test]
 fn ranges_have_a_flow_or_a_cut(rt: HostRuntime) -> Result<(), Fail> {
     let alloc = rt.alloc();
     for (name, vertices, edges, wanted) in &ROWS {
         assert!(rt; is_answered(alloc, *vertices, edges, wanted)?, "{name}");
+    }
+    Ok(())
+}
+
+#[test]
+fn wide_ranges_have_a_flow(rt: HostRuntime) -> Result<(), Fail> {
+    let alloc = rt.alloc();
+    let net = Net::build(alloc, 3, &[(0, 1), (1, 2)])?;
+    let ranges = [Range { lo: WIDE, hi: WIDE }, Range { lo: 0, hi: WIDE }];
+    if ranges.len() != net.edges() as usize || !are_bounded(&ranges, 4_096_000_000_000_000) {
+        return Err(Fail::new("one range for each edge is wanted"));
+    }
+    match wide_flow(alloc, &net, &ranges)? {
+        FlowOrCut::Flow(flow) => assert!(rt; flow.as_slice() == [WIDE, WIDE].as_slice()),
+        _ => assert!(rt; false, "there is a flow"),
     }
     Ok(())
 }
