@@ -14,7 +14,7 @@ pub fn words_are_taken()
     ensures next { settings_of (codes "--nodes" ∷ codes "7" ∷ codes "x" ∷ []) ≡ naming 7 (codes "x") }
     ensures same { settings_of (codes "x" ∷ codes "--nodes=7" ∷ codes "--" ∷ []) ≡ naming 7 (codes "x") }
     ensures zeros { settings_of (codes "--nodes=0000000007" ∷ codes "-" ∷ []) ≡ naming 7 (codes "-") }
-    ensures greatest { settings_of (codes "--nodes" ∷ codes "50000" ∷ []) ≡ naming 50000 (codes "-") }
+    ensures greatest { settings_of (codes "--nodes" ∷ codes "1000000" ∷ []) ≡ naming 1000000 (codes "-") }
     ensures behind { settings_of (codes "--nodes" ∷ codes "1" ∷ codes "--" ∷ codes "--nodes" ∷ []) ≡ naming 1 (codes "--nodes") }
     ensures safe { settings_of (codes "--safe" ∷ []) ≡ naming_safely 20000 (codes "-") }
     ensures both { settings_of (codes "x" ∷ codes "--safe" ∷ codes "--nodes=7" ∷ []) ≡ naming_safely 7 (codes "x") }
@@ -38,7 +38,7 @@ pub fn words_are_refused()
     ensures no_digits { IsNone (settings_of (codes "--nodes=" ∷ [])) }
     ensures eleven_digits { IsNone (settings_of (codes "--nodes=00000000007" ∷ [])) }
     ensures zero { IsNone (settings_of (codes "--nodes" ∷ codes "0" ∷ [])) }
-    ensures greater { IsNone (settings_of (codes "--nodes" ∷ codes "50001" ∷ [])) }
+    ensures greater { IsNone (settings_of (codes "--nodes" ∷ codes "1000001" ∷ [])) }
     ensures sign { IsNone (settings_of (codes "--nodes=+7" ∷ [])) }
     ensures help { IsNone (settings_of (codes "--help" ∷ [])) }
     ensures greater_seed { IsNone (settings_of (codes "--demo" ∷ codes "2147483648" ∷ [])) }
