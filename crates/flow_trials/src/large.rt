@@ -62,7 +62,7 @@ fn is_answered_yes(alloc: Global, graph: &str, report: &str) -> Result<bool, All
         &mut inputs,
         MemOutput::new(alloc, ROOM, ROOM)?,
     )?;
-    Ok(checked.status == Status::Clean && checked.out.bytes() == b"graph 1 yes\n")
+    Ok(checked.status == Status::Clean && checked.out.bytes() == b"graph 1 yes\n".as_slice())
 }
 
 #[test]
