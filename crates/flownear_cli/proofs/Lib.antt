@@ -1,0 +1,3 @@
+mod LineFields
+mod Weights
+mod Texts

@@ -1,0 +1,4 @@
+pub mod NearText
+pub mod RightTexts
+pub mod Run
+pub mod Nearing
