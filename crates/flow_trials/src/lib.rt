@@ -13,6 +13,8 @@ mod generated;
 #[cfg(test)]
 mod large;
 #[cfg(test)]
+mod near;
+#[cfg(test)]
 mod refused;
 #[cfg(test)]
 mod rows;
