@@ -1,9 +1,9 @@
 #!/usr/bin/env python3
 """Checks the documents and the tools: each command whose output is shown is run, and what it prints is compared with what is shown.
 
-    check_documents.py PROGRAM CHECKER
+    check_documents.py PROGRAM CHECKER NEAREST
 
-PROGRAM is put on PATH as `flowpaths`, CHECKER as `flowcheck`. It looks at README.md and the other documents at the top, docs/*.md, bench/*.md and
+PROGRAM is put on PATH as `flowpaths`, CHECKER as `flowcheck`, NEAREST as `flownear`. It looks at README.md and the other documents at the top, docs/*.md, bench/*.md and
 docs/man/*.1, and at what stands in tools/.
 
 - Commands stand in blocks fenced as `console`, in manual pages between .EX and .EE. A line that begins with `$ ` is a command, and the lines up to
@@ -212,14 +212,14 @@ def check_parts(folder, counts):
 
 def main():
     given = sys.argv[1:]
-    if len(given) != 2 or not all(map(os.path.isfile, given)):
+    if len(given) != 3 or not all(map(os.path.isfile, given)):
         print(__doc__, file=sys.stderr)
         return 2
     counts = Counts()
     files = run(["git", "ls-files"], TOP)[0].splitlines()
     files = files if (TOP / "README.md").name in files else [str(path.relative_to(TOP)) for path in TOP.rglob("*")]
     with tempfile.TemporaryDirectory() as programs:
-        for name, program in zip(("flowpaths", "flowcheck"), given):
+        for name, program in zip(("flowpaths", "flowcheck", "flownear"), given):
             Path(programs, name).symlink_to(Path(program).resolve())
         os.environ.update(PATH=f"{programs}{os.pathsep}{os.environ['PATH']}", LC_ALL="C.UTF-8", PYTHONDONTWRITEBYTECODE="1")
         for document in DOCUMENTS:
