@@ -9,6 +9,13 @@ import sys
 ANY_BYTES = {"encoding": "latin-1", "newline": "\n"}
 
 
+def quoted(text):
+    """A text in quotes, in which Graphviz finds nothing to replace."""
+    known = text.encode("latin-1").decode("utf-8", "replace")
+    shown = "".join(letter if letter.isprintable() else "\ufffd" for letter in known)
+    return '"' + shown.replace("&", "&amp;").replace("\\", "\\\\").replace('"', r"\"") + '"'
+
+
 def arguments_of(*declared):
     """The program's arguments, each declared by its name, its default or None, and its meaning. Wrong ones end it with its usage and status 2."""
     # A gone reader of the output ends the program, as it does other programs that stand in a pipe.
