@@ -18,6 +18,8 @@ mod fronts;
 #[cfg(test)]
 mod incidence;
 #[cfg(test)]
+mod loads;
+#[cfg(test)]
 mod problems;
 #[cfg(test)]
 mod readings;
