@@ -59,6 +59,15 @@ impl Budget {
         self.purse.lend(self.unit.saturating_mul(units))
     }
 
+    /// A share of so many units, or of what is left, for several purses.
+    pub fn part(&self, units: u64) -> Budget {
+        Budget {
+            tokens: self.tokens,
+            unit: self.unit,
+            purse: self.lend(units),
+        }
+    }
+
     /// A purse for routing at the width.
     pub fn lend_for_routing(&self) -> Purse {
         self.purse
@@ -73,5 +82,10 @@ impl Budget {
     /// Takes off what was spent of a purse that was lent.
     pub fn settle(&mut self, lent: &Purse) {
         self.purse.settle(lent);
+    }
+
+    /// Takes off what was spent of a share.
+    pub fn settle_part(&mut self, share: &Budget) {
+        self.settle(&share.purse);
     }
 }

@@ -24,6 +24,9 @@ const LUCKY_ANSWERS: u64 = 1;
 
 const DESCENT: u64 = 24;
 
+/// In units, for all descents of a round: a graph on which none gains anything leaves three quarters of the round to refutations.
+const DESCENTS: u64 = 96;
+
 /// A descent within the ranges goes on for so many rounds.
 const ROUNDS: u32 = 30;
 
@@ -225,19 +228,21 @@ impl<'a> Fewest<'a> {
             zero: true,
         };
         let most = self.upper.saturating_sub(1);
+        let mut share = budget.part(DESCENTS);
         let mut descent = Descent::prepare(alloc, self.ground.view(), self.problem, most)?;
         for paths in self.lower.max(1)..self.upper {
-            let mut purse = budget.lend(DESCENT);
+            let mut purse = share.lend(DESCENT);
             let found = descent.descend(paths, how, &mut purse);
-            budget.settle(&purse);
+            share.settle(&purse);
             if found.is_some() {
                 self.improve(descent.answer(alloc)?);
-                return Ok(());
+                break;
             }
-            if budget.is_spent() {
-                return Ok(());
+            if share.is_spent() {
+                break;
             }
         }
+        budget.settle_part(&share);
         Ok(())
     }
 

@@ -18,6 +18,9 @@ const ROUNDS: u32 = 60;
 
 const DESCENT: u64 = 24;
 
+/// In units, for all decisions of a round: half of it.
+const DECISIONS: u64 = 192;
+
 /// Where the bounds are nearer than this part of the error they are not halved any more.
 const NEAR: u64 = 64;
 
@@ -162,6 +165,7 @@ impl<'a> Nearest<'a> {
     /// Decides whether there is less error than is known, and where that is spent whether there is half of what lies between.
     fn refute(&mut self, alloc: Global, budget: &mut Budget) -> Result<(), AllocError> {
         let mut below: Option<u64> = None;
+        let mut share = budget.part(DECISIONS);
         for _ in 0..LIMITS {
             if self.is_closed() {
                 break;
@@ -169,7 +173,7 @@ impl<'a> Nearest<'a> {
             let Some(limit) = self.limit(below) else {
                 break;
             };
-            if self.decide(alloc, limit, budget)? {
+            if self.decide(alloc, limit, &mut share)? {
                 below = self.nearer(below);
             } else if limit.is_some() {
                 below = limit;
@@ -177,6 +181,7 @@ impl<'a> Nearest<'a> {
                 break;
             }
         }
+        budget.settle_part(&share);
         Ok(())
     }
 

@@ -3,7 +3,7 @@ use Rattle.std.specs.Prelude.{◌≡◌, ℕ, List, [], ◌∷◌, ◌++◌, map
 use Rattle.std.specs.List.{list_any}
 use Rattle.decomposition.specs.declared.Mode.{Mode}
 use Rattle.decomposition.specs.declared.Mode.TheVariants.{Abs}
-use Rattle.error_flow.specs.Certificate.{ProvesNearest}
+use Rattle.error_flow.specs.Certificate.{IsNearest, ProvesNearest}
 use Rattle.flow_io.specs.declared.status.Status.{Status}
 use Rattle.flow_io.specs.declared.status.Status.TheVariants.{Clean, Refused}
 use Rattle.graph_text.specs.Blocks.{TextBlock}
@@ -23,10 +23,10 @@ near_mode = Abs 0
 abbrev pub weights_of : RawGraph → List ℕ
 weights_of graph = map (λ r. r.lo) graph.ranges
 
--- the text tells a balanced flow, its change, and levels that prove that no balanced flow is nearer to the weights of the graph
+-- the text tells a balanced flow and its change, no balanced flow is nearer to the weights of the graph, and the levels prove it
 abbrev pub TellsNearest : RawGraph → List ℕ → Type 0
-TellsNearest graph text = (flow : List ℕ) × (levels : List ℤ) × (total : ℕ) × ProvesNearest graph.net (weights_of graph) flow levels total
-    × (text ≡ found_text graph.labels flow levels total)
+TellsNearest graph text = (flow : List ℕ) × (levels : List ℤ) × (total : ℕ) × IsNearest graph.net (weights_of graph) flow total
+    × ProvesNearest graph.net (weights_of graph) flow levels total × (text ≡ found_text graph.labels flow levels total)
 
 -- the line of a refusal
 abbrev pub refused_line : Refusal → List ℕ

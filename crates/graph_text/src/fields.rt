@@ -19,7 +19,7 @@ pub(crate) fn is_blank(byte: u8) -> bool
 }
 
 /// The fields of a line.
-pub(crate) fn fields(alloc: Global, text: &[u8]) -> Result<Vec<&[u8]>, AllocError>
+pub fn fields(alloc: Global, text: &[u8]) -> Result<Vec<&[u8]>, AllocError>
     ensures { IfOk result (λ fields. map (λ field. field.now) fields.items ≡ fields_of text.now) }
 {
     text.split(|byte| is_blank(*byte))
@@ -42,14 +42,14 @@ pub(crate) fn after_blanks(text: &[u8]) -> &[u8]
 }
 
 /// Whether a text has no field.
-pub(crate) fn is_blank_text(text: &[u8]) -> bool
+pub fn is_blank_text(text: &[u8]) -> bool
     ensures { result ≡ are_no_fields (fields_of text.now) }
 {
     after_blanks(text).is_empty()
 }
 
 /// Whether the first field of a text begins with `#`.
-pub(crate) fn is_hash_text(text: &[u8]) -> bool
+pub fn is_hash_text(text: &[u8]) -> bool
     ensures { result ≡ are_hash_fields (fields_of text.now) }
 {
     after_blanks(text).starts_with(b"#")
@@ -133,7 +133,7 @@ fn whole_weight(digits: &[u8]) -> Option<u64>
 }
 
 /// The value of a weight: digits, or digits, a point and zeros.
-pub(crate) fn parse_weight(field: &[u8]) -> Option<u64>
+pub fn parse_weight(field: &[u8]) -> Option<u64>
     ensures { result ≡ weight_in field.now }
 {
     match field.iter().position(|byte| *byte == b'.') {

@@ -118,7 +118,7 @@ impl Labels {
     }
 
     /// The vertex of this name, which gets the next number where it is new. After an `Err` nothing has changed.
-    pub(crate) fn add_vertex(&mut self, name: &[u8]) -> Result<u32, AllocError>
+    pub fn add_vertex(&mut self, name: &[u8]) -> Result<u32, AllocError>
         requires field { IsTrue (is_field name.now) }
         requires room { length self.old.names + 1 < 2 ^ 32 }
         ensures names { IfOk result (λ v. self.new ≡ record { names = with_name self.old.names name.now; edges = self.old.edges }) }
@@ -135,7 +135,7 @@ impl Labels {
     }
 
     /// Adds an edge and answers whether it is new. After an `Err` nothing has changed.
-    pub(crate) fn add_edge(&mut self, tail: u32, head: u32) -> Result<bool, AllocError>
+    pub fn add_edge(&mut self, tail: u32, head: u32) -> Result<bool, AllocError>
         requires tail { tail < length self.old.names }
         requires head { head < length self.old.names }
         requires room { length self.old.edges + 1 < 2 ^ 32 }

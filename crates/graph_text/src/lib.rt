@@ -9,7 +9,7 @@ mod draft;
 mod draft_graph;
 mod edge_line;
 mod examples;
-mod fields;
+pub mod fields;
 mod labels;
 mod laws;
 mod open_line;

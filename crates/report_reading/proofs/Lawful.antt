@@ -38,7 +38,7 @@ walk-same g h same v (e ∷ es) =
     nat_lt e (length edges) && (((slice_index_or edges e (0, 0)).0 == v) && is_walk_from h (slice_index_or edges e (0, 0)).1 es))
     same
 
-run-same : (g h : Graph) → g.edges ≡ h.edges → (es : List ℕ) → is_run g es ≡ is_run h es
+pub run-same : (g h : Graph) → g.edges ≡ h.edges → (es : List ℕ) → is_run g es ≡ is_run h es
 run-same g h same [] = refl
 run-same g h same (e ∷ es) =
     walk-same g h same (tail g e) (e ∷ es)
@@ -51,7 +51,7 @@ path-run g (e ∷ es) path =
     let rest = is_run g (e ∷ es) && is_sink g (walk_end g (head g e) es) in
     (and_parts (is_run g (e ∷ es)) (is_sink g (walk_end g (head g e) es)) (and_parts (is_source g (tail g e)) rest path).1).0
 
-entry-regular : (net : Graph) (labels : LabelLists) (entry : List ℕ × ℕ) → net.edges ≡ labels.edges → IsEntryOf net entry →
+pub entry-regular : (net : Graph) (labels : LabelLists) (entry : List ℕ × ℕ) → net.edges ≡ labels.edges → IsEntryOf net entry →
     is_path_entry labels entry ≡ true
 entry-regular net labels entry same is =
     and_from (is_run (graph_at labels) entry.0) (nat_le 1 entry.1 && fits entry.1)

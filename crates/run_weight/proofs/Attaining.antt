@@ -14,7 +14,7 @@ use Rattle.decomposition.proofs.Root.{all-cons}
 use Rattle.decomposition.proofs.Crowds.{contains_run-has}
 use Rattle.decomposition.proofs.Excess.{kept-from_load, excess_is_safe}
 use Rattle.decomposition.proofs.Exchange.{take_unit, lighten, safe_is_excess}
-use Rattle.run_weight.proofs.Leaving.{no_leaver}
+use Rattle.decomposition.proofs.Exchange.{no_leaver}
 use Rattle.decomposition.proofs.FewPaths.{flows_decompose}
 use Rattle.run_weight.specs.Loads.{load, IsLeastLoad, IsLightest, at_least_0}
 use Rattle.run_weight.proofs.LoadSums.{weight_over-load, first-le}

@@ -1,5 +1,3 @@
-pub mod Leaving
-pub mod Weighing
 pub mod Attaining
 pub mod LoadSums
 pub mod Places

@@ -14,9 +14,9 @@ use Rattle.decomposition.proofs.Walks.{walk-cons, walk-inside}
 use Rattle.decomposition.proofs.Open.{all-from_places}
 use Rattle.decomposition.proofs.Root.{all-parts}
 use Rattle.decomposition.proofs.Merging.{weight_on-where}
-use Rattle.run_weight.proofs.Weighing.{weighing-IsMerged}
+use Rattle.decomposition.proofs.Merging.{weighing-IsMerged}
 use Rattle.decomposition.proofs.Exchange.{PathParts, path-parts, is_free_path}
-use Rattle.run_weight.proofs.Leaving.{bound_answer, not_free}
+use Rattle.decomposition.proofs.Exchange.{bound_answer, not_free}
 use Rattle.safe_paths.proofs.OutSums.{small-at, sum_below-bound}
 use Rattle.greedy_paths.proofs.Building.{Decomposes-merged}
 use Rattle.run_weight.specs.Loads.{load, IsLightest}

@@ -8,4 +8,3 @@ mod exits;
 mod lightening;
 mod loads;
 mod sorting;
-mod standing;

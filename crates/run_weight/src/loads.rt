@@ -6,9 +6,9 @@ ghost use Rattle.decomposition.specs.Flow.{IsBalanced};
 ghost use Rattle.decomposition.specs.SafeRuns.{IsSafeFor, excess};
 ghost use Rattle.run_weight.specs.Loads.{load, IsLeastLoad, at_least_0};
 
-use crate::standing::stands_in;
 use dag_net::{Answer, Net};
 use safe_paths::excess;
+use subpath_rules::stands_in;
 
 /// The weight of the entries whose path contains the run.
 pub fn load(answer: &Answer, run: &[u32]) -> u128

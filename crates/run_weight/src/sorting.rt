@@ -8,9 +8,9 @@ ghost use Rattle.run_weight.specs.Exits.{ArePlacesAlong, IsExit};
 ghost use Rattle.run_weight.specs.Sorting.{IsCarrier, IsOther, IsSorted, HasWeights, Adds, weight_sorted, turns_left};
 
 use crate::exits::{Exit, copy_of, first_exit, joined, place_of};
-use crate::standing::stands_in;
 use dag_net::{Answer, Ids, Net};
 use std::alloc::{AllocError, Global};
+use subpath_rules::stands_in;
 
 /// Entries whose path contains the run, entries that are to be looked at, and entries that are done with.
 #[derive(Drop)]

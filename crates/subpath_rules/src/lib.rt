@@ -2,7 +2,7 @@
 #![tactic(auto)]
 
 pub use rules::{RuleFault, Rules};
-pub use standing::is_covered;
+pub use standing::{is_covered, stands_in};
 
 mod follows;
 pub mod laws;

@@ -15,7 +15,7 @@ fn begins_with_run(path: &[u32], run: &[u32]) -> bool
 
 /// Whether the run stands in the path, entry after entry. A path of a net has each edge once, so at most one
 /// comparison gets past its first entry.
-fn stands_in(run: &[u32], path: &[u32]) -> bool
+pub fn stands_in(run: &[u32], path: &[u32]) -> bool
     ensures { result ≡ contains_run path.now run.now }
 {
     for i in 0..path.len() {
