@@ -1,9 +1,10 @@
 -- When a text is right for a block, and the status of a run.
-use Rattle.std.specs.Prelude.{◌≡◌, ℕ, List, [], ◌∷◌, ◌++◌, map, Bool, true, false, if◌then◌else◌, Result, Ok, Err, codes, decimal, ℤ}
+use Rattle.std.specs.Prelude.{◌≡◌, ℕ, List, [], ◌∷◌, ◌++◌, map, Bool, true, false, if◌then◌else◌, Result, Ok, Err, codes, decimal, slice_index, ℤ}
 use Rattle.std.specs.List.{list_any}
 use Rattle.decomposition.specs.declared.Mode.{Mode}
 use Rattle.decomposition.specs.declared.Mode.TheVariants.{Abs}
-use Rattle.error_flow.specs.Certificate.{IsNearest, ProvesNearest}
+use Rattle.error_flow.specs.Certificate.{ProvesNearest}
+use Rattle.error_flow.specs.Nearest.{IsNearest}
 use Rattle.flow_io.specs.declared.status.Status.{Status}
 use Rattle.flow_io.specs.declared.status.Status.TheVariants.{Clean, Refused}
 use Rattle.graph_text.specs.Blocks.{TextBlock}
@@ -25,7 +26,7 @@ weights_of graph = map (λ r. r.lo) graph.ranges
 
 -- the text tells a balanced flow and its change, no balanced flow is nearer to the weights of the graph, and the levels prove it
 abbrev pub TellsNearest : RawGraph → List ℕ → Type 0
-TellsNearest graph text = (flow : List ℕ) × (levels : List ℤ) × (total : ℕ) × IsNearest graph.net (weights_of graph) flow total
+TellsNearest graph text = (flow : List ℕ) × (levels : List ℤ) × (total : ℕ) × IsNearest graph.net (slice_index (weights_of graph)) (slice_index flow) total
     × ProvesNearest graph.net (weights_of graph) flow levels total × (text ≡ found_text graph.labels flow levels total)
 
 -- the line of a refusal

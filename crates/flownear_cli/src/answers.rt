@@ -1,7 +1,8 @@
 //! What a block is answered.
-ghost use Rattle.std.specs.Prelude.{◌≡◌, ◌≤◌, ◌∷◌, [], ◌++◌, List, ℕ, length, map, All, IfOk, OnOk};
+ghost use Rattle.std.specs.Prelude.{◌≡◌, ◌≤◌, ◌∷◌, [], ◌++◌, List, ℕ, length, map, All, IfOk, OnOk, slice_index};
 ghost use Rattle.decomposition.specs.Graph.{edge_count};
-ghost use Rattle.error_flow.specs.Certificate.{IsNearest, ProvesNearest};
+ghost use Rattle.error_flow.specs.Certificate.{ProvesNearest};
+ghost use Rattle.error_flow.specs.Nearest.{IsNearest};
 ghost use Rattle.graph_text.specs.Accepted.{IsAccepted};
 ghost use Rattle.report_reading.specs.ReportText.{graph_line};
 ghost use Rattle.flownear_cli.specs.RightTexts.{near_mode, weights_of, IsBodyText, IsTextFor};
@@ -61,7 +62,7 @@ fn add_body(
 /// The flow nearest to the weights of a graph.
 fn nearest_of(alloc: Global, graph: &RawGraph) -> Result<Nearest, AllocError>
     requires valid { IsAccepted near_mode graph.now }
-    ensures nearest { IfOk result (λ found. IsNearest graph.now.net (weights_of graph.now) found.flow found.change) }
+    ensures nearest { IfOk result (λ found. IsNearest graph.now.net (slice_index (weights_of graph.now)) (slice_index found.flow) found.change) }
     ensures proof { IfOk result (λ found. ProvesNearest graph.now.net (weights_of graph.now) found.flow found.levels found.change) }
 {
     let weights = weights_of(alloc, graph)?;
