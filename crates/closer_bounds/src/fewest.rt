@@ -24,7 +24,7 @@ const LUCKY_ANSWERS: u64 = 1;
 
 const DESCENT: u64 = 24;
 
-/// In units, for all descents of a round: a graph on which none gains anything leaves three quarters of the round to refutations.
+/// In units, for all descents of a round: a graph on which none gains anything leaves most of the round to refutations.
 const DESCENTS: u64 = 48;
 
 /// A descent within the ranges goes on for so many rounds.

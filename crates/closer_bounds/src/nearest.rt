@@ -18,7 +18,7 @@ const ROUNDS: u32 = 60;
 
 const DESCENT: u64 = 24;
 
-/// In units, for all decisions of a round: half of it.
+/// In units, for all decisions of a round: a quarter of it.
 const DECISIONS: u64 = 96;
 
 /// Where the bounds are nearer than this part of the error they are not halved any more.
