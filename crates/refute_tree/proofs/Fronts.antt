@@ -1,5 +1,5 @@
 -- What a front answers of its first box.
-use Rattle.std.proofs.Common.{◌≡◌, ◌≢◌, ℕ, ◌<◌, ◌≤◌, Bool, true, false, not, ◌&&◌, nat_le, nat_lt, List, [], ◌∷◌, cond, length, get_or, vec_len, refl, sym, ap, ◌∙◌, lt-ltb, le-ltb, ltb-true, true≢false, is_none, Option, None, subst, arith}
+use Rattle.std.proofs.Common.{◌≡◌, ◌≢◌, ℕ, ◌<◌, ◌≤◌, Bool, true, false, not, ◌&&◌, nat_le, nat_lt, List, [], ◌∷◌, cond, length, get_or, vec_len, refl, sym, ap, ◌∙◌, lt-ltb, le-ltb, ltb-true, true≢false, is_none, Option, subst, arith}
 use Rattle.std.proofs.lemmas.Bool.{and_parts}
 use Rattle.decomposition.specs.declared.Token.{Token}
 use Rattle.decomposition.specs.declared.Token.TheVariants.{Split, Step}

@@ -1,15 +1,17 @@
 //! Which token closes the first box.
 
-ghost use Rattle.std.specs.Prelude.{◌≡◌, ◌<◌, length, vec_len, IsTrue};
+ghost use Rattle.std.specs.Prelude.{◌≡◌, ◌<◌, [], length, slice_index_or, vec_len, IsTrue};
 ghost use Rattle.std.specs.List.{list_all};
 ghost use Rattle.decomposition.specs.Graph.{is_run};
 ghost use Rattle.decomposition.specs.Boxes.{misses};
 ghost use Rattle.decomposition.specs.Tokens.{is_above};
 ghost use Rattle.flow_models.specs.Problem.{instance};
+ghost use Rattle.refute_tree.specs.Ends.{AreSeen, IsOnWay, IsSummedUp};
 ghost use Rattle.refute_tree.specs.Front.{closing_token};
 ghost use Rattle.refute_tree.specs.OneBox.{place_of, IsOneBox};
 ghost use Rattle.refute_tree.specs.Sums.{SumsUp};
 
+use crate::ends::Known;
 use crate::misses::may_contain;
 use crate::one_box::OneBox;
 use crate::sums::Weights;
@@ -27,8 +29,21 @@ pub fn is_above(limit: Option<u64>, number: u128) -> bool
     }
 }
 
-/// Whether no slot of the box of a weight that may be positive may contain the rule.
-pub fn is_missed(net: &Net, problem: &Problem, one: &OneBox, sums: &Weights, rule: u32) -> bool
+/// Whether a slot of the box of a weight that may be positive is known to overlap the rule.
+fn is_known(one: &OneBox, sums: &Weights, known: &Known, rule: u32) -> bool
+    requires rule { rule < length known.now.rules.now }
+    requires room { vec_len sums.now.uppers ≡ one.now.links.slots }
+    requires known { AreSeen known.now.rules.now one.now.links.links known.now }
+    ensures { IsTrue result → IsOnWay sums.now.uppers.items one.now.links (slice_index_or known.now.rules.now rule []) }
+{
+    match known.slot_on(&one.links, rule) {
+        Some(slot) => sums.uppers[slot as usize] >= 1,
+        None => false,
+    }
+}
+
+/// Whether no slot of the box of a weight that may be positive may contain the rule, by the walk of each slot.
+fn is_missed_by_walks(net: &Net, problem: &Problem, one: &OneBox, sums: &Weights, rule: u32) -> bool
     requires rules { IsTrue (list_all (is_run net.now) problem.now.rules) }
     requires rule { rule < length problem.now.rules }
     requires kept { IsOneBox net.now one.now }
@@ -45,6 +60,24 @@ pub fn is_missed(net: &Net, problem: &Problem, one: &OneBox, sums: &Weights, rul
     true
 }
 
+/// Whether no slot of the box of a weight that may be positive may contain the rule.
+pub fn is_missed(
+    net: &Net,
+    problem: &Problem,
+    one: &OneBox,
+    sums: &Weights,
+    known: &Known,
+    rule: u32,
+) -> bool
+    requires rules { IsTrue (list_all (is_run net.now) problem.now.rules) }
+    requires rule { rule < length problem.now.rules }
+    requires kept { IsOneBox net.now one.now }
+    requires beside { IsSummedUp (instance net.now problem.now) one.now sums.now known.now }
+    ensures { result ≡ misses (instance net.now problem.now) (place_of one.now).box rule }
+{
+    !is_known(one, sums, known, rule) && is_missed_by_walks(net, problem, one, sums, rule)
+}
+
 /// The token that closes the box, where there is one: the gap where it is legal, else the first legal miss.
 pub fn closing_token(
     net: &Net,
@@ -52,18 +85,18 @@ pub fn closing_token(
     limit: Option<u64>,
     one: &OneBox,
     sums: &Weights,
+    known: &Known,
 ) -> Option<Token>
     requires rules { IsTrue (list_all (is_run net.now) problem.now.rules) }
     requires kept { IsOneBox net.now one.now }
-    requires room { vec_len sums.now.uppers ≡ length one.now.ranges.items }
-    requires sums { SumsUp (instance net.now problem.now) (place_of one.now).box sums.now }
+    requires beside { IsSummedUp (instance net.now problem.now) one.now sums.now known.now }
     ensures { result ≡ closing_token (instance net.now problem.now) limit (place_of one.now).box }
 {
     if is_above(limit, sums.gap) {
         return Some(Token::Gap);
     }
     for rule in 0..problem.rules.len() {
-        if is_missed(net, problem, one, sums, rule) {
+        if is_missed(net, problem, one, sums, known, rule) {
             return Some(Token::Miss(rule));
         }
     }

@@ -11,6 +11,7 @@ ghost use Rattle.refute_tree.specs.Front.{root_of, first_of, is_unfinished, may_
 
 use crate::answer::first_paths;
 use crate::closing::{closing_token, is_above, is_missed};
+use crate::ends::Known;
 use crate::next::is_finished;
 use crate::one_box::OneBox;
 use crate::replacing::replace_first;
@@ -41,6 +42,7 @@ pub struct Front<'a> {
     has_first: bool,
     one: OneBox,
     sums: Weights,
+    known: Known<'a>,
     closing: Option<Token>,
 }
 
@@ -73,7 +75,8 @@ impl<'a> Front<'a> {
         let one = OneBox::of_root(alloc, net, d.slots, p.cap, tokens)?;
         let mut sums = Weights::with_room(alloc, d.slots, net.edges())?;
         sums.mend(net, p, &one.links, &one.ranges);
-        let closing = closing_token(net, p, d.limit, &one, &sums);
+        let known = Known::nothing(alloc, &p.rules)?;
+        let closing = closing_token(net, p, d.limit, &one, &sums, &known);
         Ok(Front {
             net,
             problem: p,
@@ -83,6 +86,7 @@ impl<'a> Front<'a> {
             has_first: true,
             one,
             sums,
+            known,
             closing,
         })
     }
@@ -134,7 +138,7 @@ impl<'a> Front<'a> {
         requires rule { rule < length self.now.instance.rules }
         ensures { result ≡ misses self.now.instance (first_of self.now.boxes) rule }
     {
-        is_missed(self.net, self.problem, &self.one, &self.sums, rule)
+        is_missed(self.net, self.problem, &self.one, &self.sums, &self.known, rule)
     }
 
     /// The token that closes the first box: the gap where it is legal, else the first legal miss.
@@ -184,7 +188,7 @@ impl<'a> Front<'a> {
             return false;
         }
         self.used += 1;
-        self.has_first = replace_first(self.net, &mut self.sums, &mut self.one, token);
+        self.has_first = replace_first(self.net, &mut self.sums, &mut self.known, &mut self.one, token);
         if !self.has_first {
             self.closing = None;
             return true;
@@ -197,6 +201,7 @@ impl<'a> Front<'a> {
             self.decision.limit,
             &self.one,
             &self.sums,
+            &self.known,
         );
         true
     }

@@ -7,6 +7,7 @@ pub use front::{Front, Sums};
 mod answer;
 mod choice;
 mod closing;
+mod ends;
 mod front;
 mod misses;
 mod next;
