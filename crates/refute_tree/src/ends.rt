@@ -173,7 +173,9 @@ impl<'a> Known<'a> {
         ensures { IfSome result (λ k. (k < links.now.slots) × Overlaps (walk_of links.now.links k) (slice_index_or self.now.rules.now rule [])) }
     {
         match &self.seen[rule as usize] {
-            Some(seen) if seen.overlaps(links, self.rules.run(rule)) => Some(links.slot_of(seen.cell)),
+            Some(seen) if seen.overlaps(links, self.rules.run(rule)) => Some(links.slot_of(
+                seen.cell,
+            )),
             _ => None,
         }
     }

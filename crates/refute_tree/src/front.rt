@@ -138,7 +138,14 @@ impl<'a> Front<'a> {
         requires rule { rule < length self.now.instance.rules }
         ensures { result ≡ misses self.now.instance (first_of self.now.boxes) rule }
     {
-        is_missed(self.net, self.problem, &self.one, &self.sums, &self.known, rule)
+        is_missed(
+            self.net,
+            self.problem,
+            &self.one,
+            &self.sums,
+            &self.known,
+            rule,
+        )
     }
 
     /// The token that closes the first box: the gap where it is legal, else the first legal miss.
@@ -188,7 +195,13 @@ impl<'a> Front<'a> {
             return false;
         }
         self.used += 1;
-        self.has_first = replace_first(self.net, &mut self.sums, &mut self.known, &mut self.one, token);
+        self.has_first = replace_first(
+            self.net,
+            &mut self.sums,
+            &mut self.known,
+            &mut self.one,
+            token,
+        );
         if !self.has_first {
             self.closing = None;
             return true;

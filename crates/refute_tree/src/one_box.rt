@@ -156,7 +156,14 @@ impl OneBox {
     }
 
     /// Undoes a step, which was the latest choice, and takes the next edge, if there is one.
-    fn next_step(&mut self, net: &Net, sums: &mut Weights, known: &mut Known, slot: u32, edge: u32) -> bool
+    fn next_step(
+        &mut self,
+        net: &Net,
+        sums: &mut Weights,
+        known: &mut Known,
+        slot: u32,
+        edge: u32,
+    ) -> bool
         requires led { IsLedTo net.now (Step slot edge ∷ (place_of self.old).choices) self.old }
         requires beside { GoWith net.now known.old.rules.now self.old.links sums.old known.old }
         requires room { length self.old.choices.items < self.old.links.room }

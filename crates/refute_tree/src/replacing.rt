@@ -25,7 +25,13 @@ fn middle(lower: u64, upper: u64) -> u64
 }
 
 /// Puts the boxes after a token in place of the first; false where no box is left. The sums are to be mended.
-pub fn replace_first(net: &Net, sums: &mut Weights, known: &mut Known, one: &mut OneBox, token: Token) -> bool
+pub fn replace_first(
+    net: &Net,
+    sums: &mut Weights,
+    known: &mut Known,
+    one: &mut OneBox,
+    token: Token,
+) -> bool
     requires kept { IsOneBox net.now one.old }
     requires fits { Replaces net.now (place_of one.old).box token }
     requires beside { GoWith net.now known.old.rules.now one.old.links sums.old known.old }
