@@ -16,10 +16,10 @@ use Rattle.link_cells.specs.Links.{slot_in, edge_in, latest_of, walk_of, walk_to
 use Rattle.link_cells.proofs.Linking.{to_before}
 use Rattle.refute_tree.specs.OneBox.{place_of, IsOneBox}
 use Rattle.refute_tree.specs.Ends.{IsSeen, AreSeen, IsOnWay, IsSummedUp}
+use Rattle.refute_tree.specs.declared.beside.Beside.{Beside}
 use Rattle.refute_tree.specs.declared.ends.Known.{Known}
 use Rattle.refute_tree.specs.declared.ends.Seen.{Seen}
 use Rattle.refute_tree.specs.declared.one_box.OneBox.{OneBox}
-use Rattle.refute_tree.specs.declared.sums.Weights.{Weights}
 use Rattle.refute_tree.proofs.FirstBoxes.{misses-some}
 use Rattle.refute_tree.proofs.Placing.{slots_from-length, walk_at}
 use Rattle.refute_tree.proofs.Taking.{walk_begun}
@@ -187,17 +187,17 @@ set_back-more rules links old new place o inside are same is says = record {
 }
 
 -- a slot that is known to overlap a rule may contain it
-pub misses-known : (g : Graph) (p : Problem) (a : OneBox) (s : Weights) (k : Known) (rule : ℕ) → IsTrue (list_all (is_run g) p.rules) → rule < length p.rules → IsOneBox g a → IsSummedUp (instance g p) a s k
-    → IsOnWay s.uppers.items a.links (get_or p.rules rule []) → misses (instance g p) (place_of a).box rule ≡ false
-misses-known g p a s k rule rules is_rule kept beside way =
+pub misses-known : (g : Graph) (p : Problem) (a : OneBox) (kept : Beside) (rule : ℕ) → IsTrue (list_all (is_run g) p.rules) → rule < length p.rules → IsOneBox g a → IsSummedUp (instance g p) a kept
+    → IsOnWay kept.sums.uppers.items a.links (get_or p.rules rule []) → misses (instance g p) (place_of a).box rule ≡ false
+misses-known g p a kept rule rules is_rule one beside way =
     let links = a.links.links in
     let walk : List ℕ = walk_of links way.slot in
     let run : List ℕ = get_or p.rules rule [] in
     let b = (place_of a).box in
     let over : Overlaps walk run = way.overlaps in
-    let inside : way.slot < length a.ranges.items = omega (arith, way.inside, kept.slots) in
+    let inside : way.slot < length a.ranges.items = omega (arith, way.inside, one.slots) in
     let in_box : way.slot < length b = omega (arith, inside, slots_from-length 0 a.ranges.items links) in
     let some : walk ≡ [] → ⊥ = λ none. omega (arith, over.1, ap length none) in
     let may : may_contain (paths g) walk run ≡ true
-    = sym (may-decides true g walk run kept.net (walk_begun g a way.slot kept inside) (rule-run g p.rules rule run rules is_rule refl) some (λ _. inl over, λ _. refl)) in
+    = sym (may-decides true g walk run one.net (walk_begun g a way.slot one inside) (rule-run g p.rules rule run rules is_rule refl) some (λ _. inl over, λ _. refl)) in
     misses-some (paths g) b run way.slot (length b) in_box (omega (arith, way.positive, beside.sums.bounds.uppers way.slot in_box)) (ap (λ w. may_contain (paths g) w run) (walk_at a.ranges.items links way.slot inside) ∙ may)

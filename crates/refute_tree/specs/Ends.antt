@@ -6,10 +6,10 @@ use Rattle.subpath_rules.specs.Follows.{Overlaps}
 use Rattle.link_cells.specs.Links.{LinkList, walk_of, walk_to}
 use Rattle.refute_tree.specs.OneBox.{place_of}
 use Rattle.refute_tree.specs.Sums.{AreTotals, SumsUp}
+use Rattle.refute_tree.specs.declared.beside.Beside.{Beside}
 use Rattle.refute_tree.specs.declared.ends.Seen.{Seen}
 use Rattle.refute_tree.specs.declared.ends.Known.{Known}
 use Rattle.refute_tree.specs.declared.one_box.OneBox.{OneBox}
-use Rattle.refute_tree.specs.declared.sums.Weights.{Weights}
 
 -- the walk up to a link ends with so many first edges of a run, one at least
 pub record IsSeen (links : List (ℕ × ℕ)) (run : List ℕ) (s : Seen) : Type 0 where
@@ -26,9 +26,9 @@ pub record AreSeen (rules : List (List ℕ)) (links : List (ℕ × ℕ)) (k : Kn
   pub seen : (r : ℕ) → r < length rules → IfSome (slice_index_or k.seen.items r None) (IsSeen links (slice_index_or rules r []))
 
 -- the sums, and what is known of the walks, are those of the links
-pub record GoWith (g : Graph) (rules : List (List ℕ)) (l : LinkList) (s : Weights) (k : Known) : Type 0 where
-  pub totals : AreTotals g l s
-  pub known : AreSeen rules l.links k
+pub record GoWith (g : Graph) (rules : List (List ℕ)) (l : LinkList) (b : Beside) : Type 0 where
+  pub totals : AreTotals g l b.sums
+  pub known : AreSeen rules l.links b.known
 
 -- a slot whose upper bound is positive overlaps the run
 pub record IsOnWay (uppers : List ℕ) (l : LinkList) (run : List ℕ) : Type 0 where
@@ -38,7 +38,7 @@ pub record IsOnWay (uppers : List ℕ) (l : LinkList) (run : List ℕ) : Type 0 
   pub overlaps : Overlaps (walk_of l.links slot) run
 
 -- the sums are those of the box, and what is known of its walks is so
-pub record IsSummedUp (i : Instance) (a : OneBox) (s : Weights) (k : Known) : Type 0 where
-  pub room : vec_len s.uppers ≡ length a.ranges.items
-  pub sums : SumsUp i (place_of a).box s
-  pub known : AreSeen i.rules a.links.links k
+pub record IsSummedUp (i : Instance) (a : OneBox) (b : Beside) : Type 0 where
+  pub room : vec_len b.sums.uppers ≡ length a.ranges.items
+  pub sums : SumsUp i (place_of a).box b.sums
+  pub known : AreSeen i.rules a.links.links b.known

@@ -43,9 +43,9 @@ pub record KeepsFirst (a : Inside) : Type 0 where
   pub one : IsOneBox a.net.now a.one
   pub cells : a.one.links.room ≡ a.room
   pub spent : length a.one.choices.items ≤ a.used
-  pub totals : AreTotals a.net.now a.one.links a.sums
-  pub sums : SumsUp (instance a.net.now a.problem.now) (place_of a.one).box a.sums
-  pub known : AreSeen a.problem.now.rules a.one.links.links a.known
+  pub totals : AreTotals a.net.now a.one.links a.beside.sums
+  pub sums : SumsUp (instance a.net.now a.problem.now) (place_of a.one).box a.beside.sums
+  pub known : AreSeen a.problem.now.rules a.one.links.links a.beside.known
 
 -- the fields go with each other, and the boxes are those that legal tokens left; where no box is left, nothing is said of the last one
 pub record IsKept (a : Inside) : Type 0 where

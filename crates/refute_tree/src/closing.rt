@@ -11,7 +11,7 @@ ghost use Rattle.refute_tree.specs.Front.{closing_token};
 ghost use Rattle.refute_tree.specs.OneBox.{place_of, IsOneBox};
 ghost use Rattle.refute_tree.specs.Sums.{SumsUp};
 
-use crate::ends::Known;
+use crate::beside::Beside;
 use crate::misses::may_contain;
 use crate::one_box::OneBox;
 use crate::sums::Weights;
@@ -30,14 +30,14 @@ pub fn is_above(limit: Option<u64>, number: u128) -> bool
 }
 
 /// Whether a slot of the box of a weight that may be positive is known to overlap the rule.
-fn is_known(one: &OneBox, sums: &Weights, known: &Known, rule: u32) -> bool
-    requires rule { rule < length known.now.rules.now }
-    requires room { vec_len sums.now.uppers ≡ one.now.links.slots }
-    requires known { AreSeen known.now.rules.now one.now.links.links known.now }
-    ensures { IsTrue result → IsOnWay sums.now.uppers.items one.now.links (slice_index_or known.now.rules.now rule []) }
+fn is_known(one: &OneBox, beside: &Beside, rule: u32) -> bool
+    requires rule { rule < length beside.now.known.rules.now }
+    requires room { vec_len beside.now.sums.uppers ≡ one.now.links.slots }
+    requires known { AreSeen beside.now.known.rules.now one.now.links.links beside.now.known }
+    ensures { IsTrue result → IsOnWay beside.now.sums.uppers.items one.now.links (slice_index_or beside.now.known.rules.now rule []) }
 {
-    match known.slot_on(&one.links, rule) {
-        Some(slot) => sums.uppers[slot as usize] >= 1,
+    match beside.known.slot_on(&one.links, rule) {
+        Some(slot) => beside.sums.uppers[slot as usize] >= 1,
         None => false,
     }
 }
@@ -61,21 +61,14 @@ fn is_missed_by_walks(net: &Net, problem: &Problem, one: &OneBox, sums: &Weights
 }
 
 /// Whether no slot of the box of a weight that may be positive may contain the rule.
-pub fn is_missed(
-    net: &Net,
-    problem: &Problem,
-    one: &OneBox,
-    sums: &Weights,
-    known: &Known,
-    rule: u32,
-) -> bool
+pub fn is_missed(net: &Net, problem: &Problem, one: &OneBox, beside: &Beside, rule: u32) -> bool
     requires rules { IsTrue (list_all (is_run net.now) problem.now.rules) }
     requires rule { rule < length problem.now.rules }
     requires kept { IsOneBox net.now one.now }
-    requires beside { IsSummedUp (instance net.now problem.now) one.now sums.now known.now }
+    requires beside { IsSummedUp (instance net.now problem.now) one.now beside.now }
     ensures { result ≡ misses (instance net.now problem.now) (place_of one.now).box rule }
 {
-    !is_known(one, sums, known, rule) && is_missed_by_walks(net, problem, one, sums, rule)
+    !is_known(one, beside, rule) && is_missed_by_walks(net, problem, one, &beside.sums, rule)
 }
 
 /// The token that closes the box, where there is one: the gap where it is legal, else the first legal miss.
@@ -84,19 +77,18 @@ pub fn closing_token(
     problem: &Problem,
     limit: Option<u64>,
     one: &OneBox,
-    sums: &Weights,
-    known: &Known,
+    beside: &Beside,
 ) -> Option<Token>
     requires rules { IsTrue (list_all (is_run net.now) problem.now.rules) }
     requires kept { IsOneBox net.now one.now }
-    requires beside { IsSummedUp (instance net.now problem.now) one.now sums.now known.now }
+    requires beside { IsSummedUp (instance net.now problem.now) one.now beside.now }
     ensures { result ≡ closing_token (instance net.now problem.now) limit (place_of one.now).box }
 {
-    if is_above(limit, sums.gap) {
+    if is_above(limit, beside.sums.gap) {
         return Some(Token::Gap);
     }
     for rule in 0..problem.rules.len() {
-        if is_missed(net, problem, one, sums, known, rule) {
+        if is_missed(net, problem, one, beside, rule) {
             return Some(Token::Miss(rule));
         }
     }

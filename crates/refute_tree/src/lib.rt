@@ -5,6 +5,7 @@ pub use decomposition::{Decision, Token};
 pub use front::{Front, Sums};
 
 mod answer;
+mod beside;
 mod choice;
 mod closing;
 mod ends;

@@ -88,9 +88,9 @@ pub closing_token-self-inside-requires-clause-kept : goal.closing_token-self-ins
 closing_token-self-inside-requires-clause-kept c = (came_here (goal.at.closing_token-self-inside-requires-clause-kept c).After-replace_first-self-inside c.if-not-self.false).box
 
 -- what is known is of the new walks
-known : (c : After-replace_first-self-inside) → AreSeen c.self.inside.problem.now.rules c.replace_first-self-inside.new.one.links.links c.replace_first-self-inside.new.known
+known : (c : After-replace_first-self-inside) → AreSeen c.self.inside.problem.now.rules c.replace_first-self-inside.new.one.links.links c.replace_first-self-inside.new.beside.known
 known c =
-    subst (λ rules. AreSeen rules c.replace_first-self-inside.new.one.links.links c.replace_first-self-inside.new.known) (keeps c).known.same
+    subst (λ rules. AreSeen rules c.replace_first-self-inside.new.one.links.links c.replace_first-self-inside.new.beside.known) (keeps c).known.same
     c.replace_first-self-inside.ensures.beside.known
 
 pub closing_token-self-inside-requires-clause-beside : goal.closing_token-self-inside-requires-clause-beside

@@ -54,22 +54,22 @@ clear-requires-clause-begun c =
     begun-at c.args.net.now old.ranges.items old.links.links c.args.slot inside c.requires.led.begun
 
 -- the sums and what is known of the walks are those without the link
-beside : (c : After-unlink_last) → GoWith c.args.net.now c.args.known.now.rules.now c.unlink_last.new.self c.clear.new.self c.set_back.new.self
+beside : (c : After-unlink_last) → GoWith c.args.net.now c.args.beside.now.known.rules.now c.unlink_last.new.self (record { sums = c.clear.new.self; known = c.set_back.new.self })
 beside c = record {
   totals = c.clear.ensures c.unlink_last.new.self (changes c);
-  known = subst (λ (l : LinkList). AreSeen c.args.known.now.rules.now l.links c.set_back.new.self) (sym c.unlink_last.ensures) c.set_back.ensures;
+  known = subst (λ (l : LinkList). AreSeen c.args.beside.now.known.rules.now l.links c.set_back.new.self) (sym c.unlink_last.ensures) c.set_back.ensures;
 }
 
 pub step-requires-clause-beside : goal.step-requires-clause-beside
 step-requires-clause-beside c =
     let b = (goal.at.step-requires-clause-beside c).After-unlink_last in
-    subst (λ rules. GoWith c.args.net.now rules c.unlink_last.new.self c.clear.new.self c.set_back.new.self) (sym c.set_back.ensures.same) (beside b)
+    subst (λ rules. GoWith c.args.net.now rules c.unlink_last.new.self (record { sums = c.clear.new.self; known = c.set_back.new.self })) (sym c.set_back.ensures.same) (beside b)
 
 pub returns-in-None-clause-beside : goal.returns-in-None-clause-beside
 returns-in-None-clause-beside c = beside (goal.at.returns-in-None-clause-beside c).After-unlink_last
 
 pub returns-in-Some-clause-beside : goal.returns-in-Some-clause-beside
-returns-in-Some-clause-beside c = subst (λ rules. GoWith c.args.net.now rules c.step.new.self.links c.step.new.sums c.step.new.known) c.set_back.ensures.same c.step.ensures.beside
+returns-in-Some-clause-beside c = subst (λ rules. GoWith c.args.net.now rules c.step.new.self.links c.step.new.beside) c.set_back.ensures.same c.step.ensures.beside
 
 pub next_after-requires : goal.next_after-requires
 next_after-requires c =

@@ -25,7 +25,7 @@ clear-requires-clause-begun c = begun-at c.args.net.now c.args.self.now.ranges.i
 pub note-requires-clause-seen : goal.note-requires-clause-seen
 note-requires-clause-seen c =
     let links : c.link.new.self ≡ record c.args.self.now.links { links = c.args.self.now.links.links ++ (c.args.slot, c.args.edge) ∷ [] } = search rules in
-    seen_all-more c.args.known.now.rules.now c.args.self.now.links.links c.link.new.self.links (c.args.slot, c.args.edge) c.args.known.now (ap (λ (l : LinkList). l.links) links) c.requires.beside.known
+    seen_all-more c.args.beside.now.known.rules.now c.args.self.now.links.links c.link.new.self.links (c.args.slot, c.args.edge) c.args.beside.now.known (ap (λ (l : LinkList). l.links) links) c.requires.beside.known
 
 pub returns-clause-beside : goal.returns-clause-beside
 returns-clause-beside c =

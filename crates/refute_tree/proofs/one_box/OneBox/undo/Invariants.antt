@@ -7,7 +7,7 @@ use Rattle.refute_tree.proofs.one_box.OneBox.undo.Given as goal
 abbrev pub invariant-loop-self : goal.invariant-loop-self
 invariant-loop-self l = record {
   same : UndoesSame l.net l.initial.self l.self;
-  beside : GoWith l.net l.initial.known.rules.now l.self.links l.sums l.known;
+  beside : GoWith l.net l.initial.beside.known.rules.now l.self.links l.beside;
 }
 
 abbrev pub decreases-loop-self : goal.decreases-loop-self
