@@ -1,10 +1,10 @@
 -- What is known of walks that end with the first edges of a rule, after a link more and after a link less.
-use Rattle.std.proofs.Common.{◌≡◌, ℕ, zero, suc, ◌+◌, ◌-◌, ◌<◌, ◌≤◌, ◌==◌, true, false, List, [], ◌∷◌, ◌++◌, map, length, get_or, set, slice_index, take, drop, Option, Some, None, refl, sym, ap, ap₂, ◌∙◌, subst, arith, inl, inr, eq-eqb, append_assoc, length-append, length-set}
+use Rattle.std.proofs.Common.{◌≡◌, ℕ, zero, suc, ◌+◌, ◌-◌, ◌<◌, ◌≤◌, ◌==◌, true, false, List, [], ◌∷◌, ◌++◌, map, length, get_or, slice_index, take, drop, Option, Some, None, refl, sym, ap, ap₂, ◌∙◌, subst, arith, inl, eq-eqb, append_assoc, length-append}
 use Rattle.std.specs.Prelude.{filter, IfSome, IsTrue}
 use Rattle.std.specs.List.{list_all}
 use Rattle.std.proofs.Math.Seq.{drop-append_seam, take-append_seam}
-use Rattle.std.proofs.lemmas.Bool.{and_from, cases_eq}
-use Rattle.std.proofs.lemmas.List.{take_all, take-take, take_more, take-append-drop, get_or-take, get_or-set_same, get_or-set_other, length-take-le, map-append, append-nil, same_from_push}
+use Rattle.std.proofs.lemmas.Bool.{and_from}
+use Rattle.std.proofs.lemmas.List.{take_all, take-take, take_more, take-append-drop, get_or-take, length-take-le, map-append, append-nil}
 use Rattle.std.proofs.lemmas.List.Elements.{filter-append}
 use Rattle.decomposition.specs.Graph.{Graph, is_run, paths}
 use Rattle.decomposition.specs.Boxes.{may_contain, misses}
@@ -30,15 +30,6 @@ walk_to-take links n p less =
     ap₂ (λ (l : List (ℕ × ℕ)) (k : ℕ). walk_of l k) (take-take (p + 1) n links (omega (arith, less))) (ap (λ (x : ℕ × ℕ). x.0) (get_or-take n links p (0, 0) less))
 
 -- ---- one rule
-
-pub seen-take : (links : List (ℕ × ℕ)) (run : List ℕ) (s : Seen) (n : ℕ) → n ≤ length links → s.cell < n → IsSeen links run s → IsSeen (take n links) run s
-seen-take links run s n few less is = record {
-  cell = omega (arith, less, length-take-le n links few);
-  some = is.some;
-  within = is.within;
-  before = is.before;
-  ends = walk_to-take links n s.cell less ∙ is.ends;
-}
 
 seen-more : (links more : List (ℕ × ℕ)) (run : List ℕ) (s : Seen) → IsSeen links run s → IsSeen (links ++ more) run s
 seen-more links more run s is = record {
@@ -75,25 +66,6 @@ seen-first links run newest less some same =
       before = walk;
       ends = to_before links newest (latest_of links (slot_in links newest) newest) less refl ∙ extend run walk walk (edge_in links newest) 0 (sym (append-nil walk)) some same
           ∙ ap (λ n. walk ++ take n run) one;
-    }
-
--- one edge less
-pub seen-back : (links : List (ℕ × ℕ)) (run : List ℕ) (s : Seen) (q : ℕ) → IsSeen links run s → s.cell + 1 ≡ length links → 1 < s.count → latest_of links (slot_in links s.cell) s.cell ≡ Some q → q < s.cell
-    → IsSeen (take (length links - 1) links) run (record { cell = q; count = s.count - 1 })
-seen-back links run s q is newest many found less =
-    let n : ℕ = s.count - 1 in
-    let next : s.count ≡ n + 1 = omega (arith, many) in
-    let inside : n < length run = omega (arith, next, is.within) in
-    let last : ℕ = get_or run n 0 in
-    let whole : walk_to links (Some q) ++ edge_in links s.cell ∷ [] ≡ (is.before ++ take n run) ++ last ∷ []
-    = sym (to_before links s.cell (Some q) is.cell (sym found)) ∙ is.ends ∙ ap (λ m. is.before ++ take m run) next ∙ ap (λ l. is.before ++ l) (take_more run n 0 inside)
-    ∙ sym (append_assoc is.before (take n run) (last ∷ [])) in
-    record {
-      cell = omega (arith, less, newest, length-take-le (length links - 1) links (omega arith));
-      some = omega (arith, many);
-      within = omega (arith, inside);
-      before = is.before;
-      ends = walk_to-take links (length links - 1) q (omega (arith, less, newest)) ∙ (same_from_push (walk_to links (Some q)) (is.before ++ take n run) (edge_in links s.cell) last whole).0;
     }
 
 -- ---- overlapping
@@ -151,40 +123,12 @@ seen_all-more rules links new x k is are = subst (λ l. AreSeen rules l k) (sym 
   more r None says = tt
   more r (Some s) says = seen-more links (x ∷ []) (get_or rules r []) s says
 
-pub seen_all-set : (rules : List (List ℕ)) (links : List (ℕ × ℕ)) (old new : Known) (place : ℕ) (o : Option Seen) → AreSeen rules links old → new.rules.now ≡ old.rules.now → new.seen.items ≡ set old.seen.items place o
-    → IfSome o (IsSeen links (get_or rules place [])) → AreSeen rules links new
-seen_all-set rules links old new place o are same is says = record {
-  same = same ∙ are.same;
-  each = ap length is ∙ length-set old.seen.items place o ∙ are.each;
-  seen = λ r inside. subst (λ l. IfSome (get_or l r None) (IsSeen links (get_or rules r []))) (sym is) (elim (cases_eq r place) [
-    | inl here ↦
-        subst (λ j. IfSome (get_or (set old.seen.items place o) j None) (IsSeen links (get_or rules j []))) (sym here)
-        (subst (λ (v : Option Seen). IfSome v (IsSeen links (get_or rules place []))) (sym (get_or-set_same old.seen.items place o None (omega (arith, inside, here, are.each)))) says)
-    | inr other ↦ subst (λ (v : Option Seen). IfSome v (IsSeen links (get_or rules r []))) (sym (get_or-set_other old.seen.items place r o None other)) (are.seen r inside)
-  ]);
-}
-
 -- the first rules are set back, and the others are not yet
 pub record AreSetBack (rules : List (List ℕ)) (links : List (ℕ × ℕ)) (place : ℕ) (k : Known) : Type 0 where
   pub same : k.rules.now ≡ rules
   pub each : length k.seen.items ≡ length rules
   pub done : (r : ℕ) → r < place → IfSome (get_or k.seen.items r None) (IsSeen (take (length links - 1) links) (get_or rules r []))
   pub left : (r : ℕ) → place ≤ r → r < length rules → IfSome (get_or k.seen.items r None) (IsSeen links (get_or rules r []))
-
-pub set_back-more : (rules : List (List ℕ)) (links : List (ℕ × ℕ)) (old new : Known) (place : ℕ) (o : Option Seen) → place < length rules → AreSetBack rules links place old → new.rules.now ≡ old.rules.now
-    → new.seen.items ≡ set old.seen.items place o → IfSome o (IsSeen (take (length links - 1) links) (get_or rules place [])) → AreSetBack rules links (place + 1) new
-set_back-more rules links old new place o inside are same is says = record {
-  same = same ∙ are.same;
-  each = ap length is ∙ length-set old.seen.items place o ∙ are.each;
-  done = λ r less. subst (λ l. IfSome (get_or l r None) (IsSeen (take (length links - 1) links) (get_or rules r []))) (sym is) (elim (cases_eq r place) [
-    | inl here ↦
-        subst (λ j. IfSome (get_or (set old.seen.items place o) j None) (IsSeen (take (length links - 1) links) (get_or rules j []))) (sym here)
-        (subst (λ (v : Option Seen). IfSome v (IsSeen (take (length links - 1) links) (get_or rules place []))) (sym (get_or-set_same old.seen.items place o None (omega (arith, inside, are.each)))) says)
-    | inr other ↦ subst (λ (v : Option Seen). IfSome v (IsSeen (take (length links - 1) links) (get_or rules r []))) (sym (get_or-set_other old.seen.items place r o None other)) (are.done r (omega (arith, less, other)))
-  ]);
-  left = λ r from there. subst (λ l. IfSome (get_or l r None) (IsSeen links (get_or rules r []))) (sym is)
-      (subst (λ (v : Option Seen). IfSome v (IsSeen links (get_or rules r []))) (sym (get_or-set_other old.seen.items place r o None (λ same. omega (arith, from, same)))) (are.left r (omega (arith, from)) there));
-}
 
 -- a slot that is known to overlap a rule may contain it
 pub misses-known : (g : Graph) (p : Problem) (a : OneBox) (kept : Beside) (rule : ℕ) → IsTrue (list_all (is_run g) p.rules) → rule < length p.rules → IsOneBox g a → IsSummedUp (instance g p) a kept
