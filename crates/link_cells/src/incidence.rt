@@ -1,6 +1,6 @@
 //! Links of slots and edges: each stands in the list of its slot and in the list of its edge, and the latest can be undone.
 
-ghost use Rattle.std.specs.Prelude.{◌≡◌, ◌≢◌, ◌≤◌, ◌<◌, ◌-◌, ◌++◌, [], ◌∷◌, ℕ, List, length, take, Option, Some, None, IfOk, MatchOption};
+ghost use Rattle.std.specs.Prelude.{◌≡◌, ◌≢◌, ◌↔◌, ◌≤◌, ◌<◌, ◌+◌, ◌-◌, ◌++◌, [], ◌∷◌, ℕ, List, length, take, Option, Some, None, IfOk, MatchOption, IsTrue};
 ghost use Rattle.link_cells.specs.Cells.{IsLive};
 ghost use Rattle.link_cells.specs.Links.{slot_in, edge_in, latest_of, latest_on, walk_of, walk_to};
 
@@ -21,6 +21,15 @@ impl Model for Cell {
     ghost view = { λ cell. cell.place };
 
     ghost inverse = { λ place. record { place = place } };
+}
+
+impl Cell {
+    /// Whether the two are the same link.
+    pub fn is(self, other: Cell) -> bool
+        ensures { IsTrue result ↔ (self ≡ other) }
+    {
+        self.place == other.place
+    }
 }
 
 /// A slot and an edge, the place of the link of the slot before this one, and of the link of the edge before this one.
@@ -128,6 +137,26 @@ impl Incidence {
             .map(|place| Cell { place })
     }
 
+    /// Whether the link is the latest of all.
+    pub fn is_newest(&self, cell: Cell) -> bool
+        requires cell { cell < length self.now.links }
+        ensures { IsTrue result ↔ (cell + 1 ≡ length self.now.links) }
+    {
+        cell.place as usize + 1 == self.cells.len()
+    }
+
+    /// Whether the link is the latest of its slot.
+    pub fn is_last(&self, cell: Cell) -> bool
+        requires cell { cell < length self.now.links }
+        ensures latest { IsTrue result ↔ (latest_of self.now.links (slot_in self.now.links cell) (length self.now.links) ≡ Some cell) }
+        ensures walk { IsTrue result → walk_to self.now.links (Some cell) ≡ walk_of self.now.links (slot_in self.now.links cell) }
+    {
+        match self.last_cell(self.slot_of(cell)) {
+            Some(last) => last.is(cell),
+            None => false,
+        }
+    }
+
     /// The latest link of the edge.
     pub fn first_on(&self, edge: u32) -> Option<Cell>
         requires edge { edge < self.now.edges }
@@ -149,7 +178,8 @@ impl Incidence {
     /// The slot of a link.
     pub fn slot_of(&self, cell: Cell) -> u32
         requires cell { cell < length self.now.links }
-        ensures { result ≡ slot_in self.now.links cell }
+        ensures slot { result ≡ slot_in self.now.links cell }
+        ensures inside { result < self.now.slots }
     {
         self.cells[cell.place as usize].slot
     }

@@ -1,12 +1,12 @@
 -- How many boxes the choices have still to give, and that their edges are edges of the net.
-use Rattle.std.proofs.Common.{◌≡◌, ℕ, ◌+◌, ◌*◌, ◌<◌, ◌≤◌, ◌<◌, List, [], ◌∷◌, ◌++◌, map, length, get_or, set, take, refl, sym, ap, ◌∙◌, subst, arith, length-append, length-set}
+use Rattle.std.proofs.Common.{◌≡◌, ℕ, ◌+◌, ◌*◌, ◌<◌, ◌≤◌, ◌<◌, List, [], ◌∷◌, ◌++◌, length, get_or, set, take, refl, sym, ap, ◌∙◌, subst, arith, length-append, length-set}
 use Rattle.std.specs.Prelude.{All, reverse, sum_by}
 use Rattle.std.proofs.lemmas.List.{length-map, reverse-reverse}
 use Rattle.std.proofs.lemmas.List.Sums.{sum_by-cons, sum_by_push}
 use Rattle.std.proofs.lemmas.List.Elements.{All-append, All-nil, All-cons, All-head, All-tail, All-get_or}
-use Rattle.decomposition.specs.Graph.{Graph, has_edge}
+use Rattle.decomposition.specs.Graph.{Graph}
 use Rattle.decomposition.specs.Boxes.{Slot, slot_at}
-use Rattle.decomposition.specs.Tokens.{next_edges, with_edge}
+use Rattle.decomposition.specs.Tokens.{with_edge}
 use Rattle.decomposition.specs.Reach.{IsBegun}
 use Rattle.decomposition.specs.declared.Range.{Range}
 use Rattle.refute_tree.specs.declared.choice.Choice.{Choice}

@@ -1,5 +1,5 @@
 -- What a front answers of its first box.
-use Rattle.std.proofs.Common.{◌≡◌, ◌≢◌, ℕ, ◌<◌, ◌≤◌, Bool, true, false, not, ◌&&◌, nat_le, nat_lt, List, [], ◌∷◌, cond, length, get_or, vec_len, refl, sym, ap, ◌∙◌, lt-ltb, le-ltb, ltb-true, true≢false, is_none, Option, None, subst, arith}
+use Rattle.std.proofs.Common.{◌≡◌, ◌≢◌, ℕ, ◌<◌, ◌≤◌, Bool, true, false, not, ◌&&◌, nat_le, nat_lt, List, [], ◌∷◌, cond, length, get_or, vec_len, refl, sym, ap, ◌∙◌, lt-ltb, le-ltb, ltb-true, true≢false, is_none, Option, subst, arith}
 use Rattle.std.proofs.lemmas.Bool.{and_parts}
 use Rattle.decomposition.specs.declared.Token.{Token}
 use Rattle.decomposition.specs.declared.Token.TheVariants.{Split, Step}
@@ -113,10 +113,10 @@ first-is a f view has = sym (ap (λ (x : Boxes). first_of x.boxes) view) ∙ ap 
 pub first-kept : (a : Inside) (f : Boxes) → shown a ≡ f → IsKept a → f.boxes ≢ [] → KeepsFirst a
 first-kept a f view kept some = kept.first (has-first a f view some)
 
-pub sums-kept : (a : Inside) (f : Boxes) → shown a ≡ f → IsKept a → f.boxes ≢ [] → SumsUp f.instance (first_of f.boxes) a.sums
+pub sums-kept : (a : Inside) (f : Boxes) → shown a ≡ f → IsKept a → f.boxes ≢ [] → SumsUp f.instance (first_of f.boxes) a.beside.sums
 sums-kept a f view kept some =
-    subst (λ b. SumsUp f.instance b a.sums) (sym (first-is a f view (has-first a f view some)))
-    (subst (λ (x : Boxes). SumsUp x.instance (place_of a.one).box a.sums) view (first-kept a f view kept some).sums)
+    subst (λ b. SumsUp f.instance b a.beside.sums) (sym (first-is a f view (has-first a f view some)))
+    (subst (λ (x : Boxes). SumsUp x.instance (place_of a.one).box a.beside.sums) view (first-kept a f view kept some).sums)
 
 -- the ranges kept are those of the first box
 pub first-length : (a : Inside) (f : Boxes) → shown a ≡ f → a.has_first ≡ true → length (first_of f.boxes) ≡ length a.one.ranges.items
@@ -126,10 +126,10 @@ pub walk-kept : (a : Inside) (f : Boxes) (k : ℕ) → shown a ≡ f → a.has_f
 walk-kept a f k view has inside = ap (λ (b : List Slot). (slot_at b k).walk) (first-is a f view has) ∙ walk_at a.one.ranges.items a.one.links.links k inside
 
 -- a bound that is read is that of the slot
-pub upper-kept : (a : Inside) (f : Boxes) (k u : ℕ) → shown a ≡ f → IsKept a → f.boxes ≢ [] → k < length (first_of f.boxes) → u ≡ get_or a.sums.uppers.items k u → upper_at (first_of f.boxes) k ≡ u
+pub upper-kept : (a : Inside) (f : Boxes) (k u : ℕ) → shown a ≡ f → IsKept a → f.boxes ≢ [] → k < length (first_of f.boxes) → u ≡ get_or a.beside.sums.uppers.items k u → upper_at (first_of f.boxes) k ≡ u
 upper-kept a f k u view kept some inside is =
     let keeps = first-kept a f view kept some in
-    upper-read (first_of f.boxes) a.sums k u (omega (arith, first-length a f view (has-first a f view some), keeps.totals.room.uppers, keeps.one.slots)) (sums-kept a f view kept some).bounds inside is
+    upper-read (first_of f.boxes) a.beside.sums k u (omega (arith, first-length a f view (has-first a f view some), keeps.totals.room.uppers, keeps.one.slots)) (sums-kept a f view kept some).bounds inside is
 
 -- what closes the first box, or there is none
 pub closing-first : (f : Boxes) (has : Bool) (b : List Slot) (bs : List (List Slot)) (t : Option Token) → has ≡ true → t ≡ closing_token f.instance f.limit b → t ≡ closing (record f { boxes = cond has (b ∷ bs) [] })
@@ -138,13 +138,13 @@ closing-first f has b bs t some is = is ∙ sym (ap (λ (h : Bool). closing (rec
 pub closing-is : (a : Inside) (f : Boxes) → shown a ≡ f → IsKept a → a.closing ≡ closing f
 closing-is a f view kept = kept.closing ∙ ap closing view
 
-pub lower-kept : (a : Inside) (f : Boxes) (k u : ℕ) → shown a ≡ f → IsKept a → f.boxes ≢ [] → k < length (first_of f.boxes) → u ≡ get_or a.sums.lowers.items k u → lower_at (first_of f.boxes) k ≡ u
+pub lower-kept : (a : Inside) (f : Boxes) (k u : ℕ) → shown a ≡ f → IsKept a → f.boxes ≢ [] → k < length (first_of f.boxes) → u ≡ get_or a.beside.sums.lowers.items k u → lower_at (first_of f.boxes) k ≡ u
 lower-kept a f k u view kept some inside is =
     let keeps = first-kept a f view kept some in
-    lower-read (first_of f.boxes) a.sums k u (omega (arith, first-length a f view (has-first a f view some), keeps.totals.room.lowers, keeps.one.slots)) (sums-kept a f view kept some).bounds inside is
+    lower-read (first_of f.boxes) a.beside.sums k u (omega (arith, first-length a f view (has-first a f view some), keeps.totals.room.lowers, keeps.one.slots)) (sums-kept a f view kept some).bounds inside is
 
 -- the bounds of a slot of the first box are kept
-pub bounds-there : (a : Inside) (f : Boxes) (k : ℕ) → shown a ≡ f → IsKept a → f.boxes ≢ [] → k < length (first_of f.boxes) → (k < vec_len a.sums.lowers) × (k < vec_len a.sums.uppers)
+pub bounds-there : (a : Inside) (f : Boxes) (k : ℕ) → shown a ≡ f → IsKept a → f.boxes ≢ [] → k < length (first_of f.boxes) → (k < vec_len a.beside.sums.lowers) × (k < vec_len a.beside.sums.uppers)
 bounds-there a f k view kept some inside =
     let keeps = first-kept a f view kept some in
     let long = first-length a f view (has-first a f view some) in

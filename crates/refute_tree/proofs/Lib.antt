@@ -23,3 +23,4 @@ pub mod SumsWeights
 pub mod SumsWalks
 pub mod SumsTotals
 pub mod SumsBoxes
+pub mod Seeing

@@ -1,5 +1,5 @@
 -- The edges that may follow a walk: as a list that rises, one after the other, and by the walk's last edge.
-use Rattle.std.proofs.Common.{◌≡◌, ℕ, zero, suc, ◌+◌, ◌<◌, ◌≤◌, Bool, true, false, ◌&&◌, ◌==◌, nat_lt, eqb, List, [], ◌∷◌, ◌++◌, Option, None, Some, MatchOption, refl, sym, ap, ◌∙◌, subst, arith, inl, inr, ⊎_elim, eq-eqb, ne_eqb, ltb-true, lt-ltb, le-ltb, true≢false, cond, length}
+use Rattle.std.proofs.Common.{◌≡◌, ℕ, zero, suc, ◌+◌, ◌<◌, ◌≤◌, Bool, true, false, ◌&&◌, ◌==◌, nat_lt, eqb, List, [], ◌∷◌, ◌++◌, Option, None, Some, MatchOption, refl, sym, ap, ◌∙◌, subst, arith, inl, inr, ⊎_elim, eq-eqb, ne_eqb, ltb-true, lt-ltb, le-ltb, cond, length}
 use Rattle.std.specs.Prelude.{IsTrue, filter}
 use Rattle.std.proofs.lemmas.Bool.{cases_Bool, cases_lt, and_from, and_left, and_right}
 use Rattle.std.proofs.lemmas.List.Elements.{filter-append, filter_agree}
@@ -8,7 +8,7 @@ use Rattle.decomposition.specs.Reach.{IsBegun}
 use Rattle.decomposition.specs.Tokens.{next_edges, is_finished}
 use Rattle.decomposition.proofs.Members.{any-here, any-from_filter}
 use Rattle.decomposition.proofs.Flows.{head-no_source}
-use Rattle.decomposition.proofs.Walks.{IsStep, walk_end-append, walk-right, walk-cons, edges_from-only, edges_from_sources-only}
+use Rattle.decomposition.proofs.Walks.{walk_end-append, walk-right, walk-cons, edges_from-only, edges_from_sources-only}
 use Rattle.dag_net.specs.Chain.{IsFirstOut}
 use Rattle.refute_tree.specs.Choices.{later, later_of}
 use Rattle.refute_tree.specs.Passing.{IsFirstPassing, NonePasses}

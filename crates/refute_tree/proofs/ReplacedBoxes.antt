@@ -1,5 +1,5 @@
 -- What a legal token asks of the box that it replaces.
-use Rattle.std.proofs.Common.{◌≡◌, ℕ, zero, suc, ◌+◌, true, not, ◌&&◌, nat_lt, nat_le, eqb, List, [], ◌∷◌, ◌++◌, map, length, Option, sym, ap, ◌∙◌, arith, ltb-true, true≢false, length-set}
+use Rattle.std.proofs.Common.{◌≡◌, ℕ, true, not, ◌&&◌, nat_lt, nat_le, eqb, List, length, Option, sym, ap, ◌∙◌, ltb-true, true≢false}
 use Rattle.std.specs.List.{list_any}
 use Rattle.std.proofs.lemmas.Bool.{and_parts}
 use Rattle.decomposition.specs.declared.Token.{Token}
@@ -7,7 +7,7 @@ use Rattle.decomposition.specs.declared.Token.TheVariants.{Gap, Miss, Split, Ste
 use Rattle.decomposition.specs.Graph.{IsNet, edge_count}
 use Rattle.decomposition.specs.Instance.{Instance}
 use Rattle.decomposition.specs.Boxes.{Slot, slot_at, lower_at, upper_at}
-use Rattle.decomposition.specs.Tokens.{is_legal, is_finished, can_branch, middle, next_edges, with_hi, with_lo, with_edge, boxes_after}
+use Rattle.decomposition.specs.Tokens.{is_legal, is_finished, can_branch, next_edges}
 use Rattle.decomposition.proofs.Keeps.{some_next}
 use Rattle.refute_tree.specs.Kept.{Replaces}
 

@@ -4,9 +4,7 @@ use Rattle.std.specs.Prelude.{All, reverse}
 use Rattle.std.proofs.lemmas.List.{length-replicate}
 use Rattle.std.proofs.lemmas.List.Elements.{All-nil, All-replicate}
 use Rattle.decomposition.specs.Graph.{Graph, IsNet, edge_count}
-use Rattle.decomposition.specs.Boxes.{Slot}
 use Rattle.decomposition.specs.Reach.{IsBegun}
-use Rattle.decomposition.specs.declared.Range.{Range}
 use Rattle.link_cells.specs.Links.{LinkList}
 use Rattle.refute_tree.specs.declared.choice.Choice.{Choice}
 use Rattle.refute_tree.specs.declared.one_box.OneBox.{OneBox}

@@ -8,6 +8,7 @@ use Rattle.decomposition.specs.Boxes.{Slot, slot_at, lower_at, upper_at}
 use Rattle.decomposition.specs.Tokens.{next_edges}
 use Rattle.flow_models.specs.Problem.{instance}
 use Rattle.flow_models.specs.declared.problem.Problem.{Problem}
+use Rattle.refute_tree.specs.Ends.{AreSeen}
 use Rattle.refute_tree.specs.Front.{Boxes, closing, AreLeft}
 use Rattle.refute_tree.specs.OneBox.{place_of, boxes_of, IsOneBox}
 use Rattle.refute_tree.specs.Sums.{AreTotals, SumsUp}
@@ -37,13 +38,14 @@ pub record IsProblemOn (g : Graph) (p : Problem) : Type 0 where
   pub ranged : length p.ranges ≡ edge_count g
   pub rules : IsTrue (list_all (is_run g) p.rules)
 
--- the choices led to the first box, there is room for one choice a token, and the sums are those of the bounds kept, which are those of the box
+-- the choices led to the first box, there is room for one choice a token, the sums are those of the bounds kept, which are those of the box, and what is known of its walks is so
 pub record KeepsFirst (a : Inside) : Type 0 where
   pub one : IsOneBox a.net.now a.one
   pub cells : a.one.links.room ≡ a.room
   pub spent : length a.one.choices.items ≤ a.used
-  pub totals : AreTotals a.net.now a.one.links a.sums
-  pub sums : SumsUp (instance a.net.now a.problem.now) (place_of a.one).box a.sums
+  pub totals : AreTotals a.net.now a.one.links a.beside.sums
+  pub sums : SumsUp (instance a.net.now a.problem.now) (place_of a.one).box a.beside.sums
+  pub known : AreSeen a.problem.now.rules a.one.links.links a.beside.known
 
 -- the fields go with each other, and the boxes are those that legal tokens left; where no box is left, nothing is said of the last one
 pub record IsKept (a : Inside) : Type 0 where

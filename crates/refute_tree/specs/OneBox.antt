@@ -1,8 +1,5 @@
 -- One box, by the ranges of its slots and the links of slots and edges, and the record of choices that led to it.
-use Rattle.std.specs.Prelude.{◌^◌, ◌+◌, ◌≡◌, ℕ, suc, ◌<◌, ◌≤◌, List, [], ◌∷◌, length, reverse, vec_capacity, Bool, MatchBool, Some, None, All}
-use Rattle.decomposition.specs.declared.Token.{Token}
-use Rattle.decomposition.specs.declared.Token.TheVariants.{Gap, Miss, Split as SplitToken, Step as StepToken}
-use Rattle.decomposition.specs.Tokens.{middle}
+use Rattle.std.specs.Prelude.{◌^◌, ◌≡◌, ℕ, suc, ◌<◌, ◌≤◌, List, [], ◌∷◌, length, reverse, vec_capacity, Bool, MatchBool, Some, None, All}
 use Rattle.decomposition.specs.Graph.{Graph, IsNet, edge_count}
 use Rattle.decomposition.specs.Boxes.{Slot}
 use Rattle.decomposition.specs.declared.Range.{Range}

@@ -10,7 +10,9 @@ ghost use Rattle.flow_models.specs.Problem.{instance};
 ghost use Rattle.refute_tree.specs.Front.{root_of, first_of, is_unfinished, may_branch, may_take, closing, Applies, AreLeft, IsFirstOpen, IsOpenAnswer, IsClosedOrNone, SettlesFront};
 
 use crate::answer::first_paths;
+use crate::beside::Beside;
 use crate::closing::{closing_token, is_above, is_missed};
+use crate::ends::Known;
 use crate::next::is_finished;
 use crate::one_box::OneBox;
 use crate::replacing::replace_first;
@@ -40,7 +42,7 @@ pub struct Front<'a> {
     used: u32,
     has_first: bool,
     one: OneBox,
-    sums: Weights,
+    beside: Beside<'a>,
     closing: Option<Token>,
 }
 
@@ -73,7 +75,9 @@ impl<'a> Front<'a> {
         let one = OneBox::of_root(alloc, net, d.slots, p.cap, tokens)?;
         let mut sums = Weights::with_room(alloc, d.slots, net.edges())?;
         sums.mend(net, p, &one.links, &one.ranges);
-        let closing = closing_token(net, p, d.limit, &one, &sums);
+        let known = Known::nothing(alloc, &p.rules)?;
+        let beside = Beside { sums, known };
+        let closing = closing_token(net, p, d.limit, &one, &beside);
         Ok(Front {
             net,
             problem: p,
@@ -82,7 +86,7 @@ impl<'a> Front<'a> {
             used: 0,
             has_first: true,
             one,
-            sums,
+            beside,
             closing,
         })
     }
@@ -112,7 +116,7 @@ impl<'a> Front<'a> {
         requires some { self.now.boxes ≢ [] }
         ensures { result ≡ gap self.now.instance (first_of self.now.boxes) }
     {
-        self.sums.gap
+        self.beside.sums.gap
     }
 
     /// The least and the greatest weight that the slots of the first box put on an edge.
@@ -123,8 +127,8 @@ impl<'a> Front<'a> {
         ensures high { result.high ≡ high_on (paths self.now.instance.graph) (first_of self.now.boxes) edge }
     {
         Sums {
-            low: self.sums.low_on(edge),
-            high: self.sums.high_on(edge),
+            low: self.beside.sums.low_on(edge),
+            high: self.beside.sums.high_on(edge),
         }
     }
 
@@ -134,7 +138,7 @@ impl<'a> Front<'a> {
         requires rule { rule < length self.now.instance.rules }
         ensures { result ≡ misses self.now.instance (first_of self.now.boxes) rule }
     {
-        is_missed(self.net, self.problem, &self.one, &self.sums, rule)
+        is_missed(self.net, self.problem, &self.one, &self.beside, rule)
     }
 
     /// The token that closes the first box: the gap where it is legal, else the first legal miss.
@@ -171,7 +175,7 @@ impl<'a> Front<'a> {
         if self.net.edges() == 0 {
             return Ok(Some(Answer::new(alloc)));
         }
-        let answer = first_paths(alloc, &self.one, &self.sums)?;
+        let answer = first_paths(alloc, &self.one, &self.beside.sums)?;
         Ok(Some(answer))
     }
 
@@ -184,19 +188,20 @@ impl<'a> Front<'a> {
             return false;
         }
         self.used += 1;
-        self.has_first = replace_first(self.net, &mut self.sums, &mut self.one, token);
+        self.has_first = replace_first(self.net, &mut self.beside, &mut self.one, token);
         if !self.has_first {
             self.closing = None;
             return true;
         }
-        self.sums
+        self.beside
+            .sums
             .mend(self.net, self.problem, &self.one.links, &self.one.ranges);
         self.closing = closing_token(
             self.net,
             self.problem,
             self.decision.limit,
             &self.one,
-            &self.sums,
+            &self.beside,
         );
         true
     }
@@ -207,7 +212,7 @@ impl<'a> Front<'a> {
         requires slot { slot < length (first_of self.now.boxes) }
         ensures { result ≡ nat_lt (lower_at (first_of self.now.boxes) slot) (upper_at (first_of self.now.boxes) slot) }
     {
-        self.sums.lowers[slot as usize] < self.sums.uppers[slot as usize]
+        self.beside.sums.lowers[slot as usize] < self.beside.sums.uppers[slot as usize]
     }
 
     /// Whether the slot of the first box may have weight, and its walk has not reached a sink.
@@ -216,7 +221,7 @@ impl<'a> Front<'a> {
         requires slot { slot < length (first_of self.now.boxes) }
         ensures { result ≡ is_unfinished self.now.instance.graph (first_of self.now.boxes) slot }
     {
-        self.sums.uppers[slot as usize] >= 1 && !is_finished(self.net, &self.one.links, slot)
+        self.beside.sums.uppers[slot as usize] >= 1 && !is_finished(self.net, &self.one.links, slot)
     }
 
     /// Whether there is a first box, and no token may be taken at it.

@@ -5,8 +5,10 @@ pub use decomposition::{Decision, Token};
 pub use front::{Front, Sums};
 
 mod answer;
+mod beside;
 mod choice;
 mod closing;
+mod ends;
 mod front;
 mod misses;
 mod next;

@@ -7,11 +7,11 @@ ghost use Rattle.decomposition.specs.Tokens.{next_edges, with_edge, with_hi};
 ghost use Rattle.refute_tree.specs.declared.choice.Choice.TheVariants.{Step, Lower, Upper};
 ghost use Rattle.refute_tree.specs.Choices.{Place, HasEdge, coming, before, next_of, undone};
 ghost use Rattle.refute_tree.specs.OneBox.{place_of, boxes_of, IsLedTo, IsOneBox, Comes, GoesOn, GivesNext};
-ghost use Rattle.refute_tree.specs.Sums.{AreTotals};
+ghost use Rattle.refute_tree.specs.Ends.{GoWith};
 
+use crate::beside::Beside;
 use crate::choice::Choice;
 use crate::next::{count_after, next_after};
-use crate::sums::Weights;
 use dag_net::Net;
 use decomposition::Range;
 use link_cells::Incidence;
@@ -81,17 +81,18 @@ impl OneBox {
     }
 
     /// Puts an edge at the end of the walk of a slot, and notes it. The bounds of the slot are taken off the sums.
-    pub fn step(&mut self, net: &Net, sums: &mut Weights, slot: u32, edge: u32)
+    pub fn step(&mut self, net: &Net, beside: &mut Beside, slot: u32, edge: u32)
         requires kept { IsOneBox net.now self.old }
-        requires totals { AreTotals net.now self.old.links sums.old }
+        requires beside { GoWith net.now beside.old.known.rules.now self.old.links beside.old }
         requires slot { slot < length self.old.ranges.items }
         requires follows { IsTrue (has_edge (next_edges net.now (slot_at (place_of self.old).box slot).walk) edge) }
         requires room { length self.old.choices.items < self.old.links.room }
         ensures place { Comes net.now self.old self.new (record { box = with_edge (place_of self.old).box slot edge; choices = Step slot edge ∷ (place_of self.old).choices }) }
-        ensures totals { AreTotals net.now self.new.links sums.new }
+        ensures beside { GoWith net.now beside.old.known.rules.now self.new.links beside.new }
     {
-        sums.clear(net, &self.links, slot);
-        self.links.link(slot, edge).unwrap();
+        beside.sums.clear(net, &self.links, slot);
+        let newest = self.links.link(slot, edge).unwrap();
+        beside.known.note(&self.links, newest);
         self.choices.push(Choice::Step { slot, edge }).unwrap();
     }
 
@@ -115,15 +116,15 @@ impl OneBox {
 
     /// Undoes choices until one has a further box to give, which is then the first box; false where none has.
     /// The bounds of each slot whose walk changes are taken off the sums.
-    pub fn undo(&mut self, net: &Net, sums: &mut Weights) -> bool
+    pub fn undo(&mut self, net: &Net, beside: &mut Beside) -> bool
         requires kept { IsOneBox net.now self.old }
-        requires totals { AreTotals net.now self.old.links sums.old }
+        requires beside { GoWith net.now beside.old.known.rules.now self.old.links beside.old }
         requires room { length self.old.choices.items ≤ self.old.links.room }
         ensures place { MatchOption (undone net.now (place_of self.old).box (place_of self.old).choices) (result ≡ false) (λ p. (result ≡ true) × Comes net.now self.old self.new p) }
-        ensures totals { AreTotals net.now self.new.links sums.new }
+        ensures beside { GoWith net.now beside.old.known.rules.now self.new.links beside.new }
     {
         while !self.choices.is_empty() {
-            if self.go_on(net, sums) {
+            if self.go_on(net, beside) {
                 return true;
             }
         }
@@ -131,17 +132,17 @@ impl OneBox {
     }
 
     /// Undoes the latest choice, and takes what is still to come of it, if there is anything.
-    fn go_on(&mut self, net: &Net, sums: &mut Weights) -> bool
+    fn go_on(&mut self, net: &Net, beside: &mut Beside) -> bool
         requires kept { IsOneBox net.now self.old }
-        requires totals { AreTotals net.now self.old.links sums.old }
+        requires beside { GoWith net.now beside.old.known.rules.now self.old.links beside.old }
         requires some { self.old.choices.items ≢ [] }
         requires room { length self.old.choices.items ≤ self.old.links.room }
         ensures place { GoesOn net.now self.old self.new result }
-        ensures totals { AreTotals net.now self.new.links sums.new }
+        ensures beside { GoWith net.now beside.old.known.rules.now self.new.links beside.new }
     {
         let choice = self.choices.pop().unwrap();
         match choice {
-            Choice::Step { slot, edge } => self.next_step(net, sums, slot, edge),
+            Choice::Step { slot, edge } => self.next_step(net, beside, slot, edge),
             Choice::Lower { slot, lo, hi } => {
                 self.raise(net, slot, lo, hi);
                 true
@@ -154,18 +155,19 @@ impl OneBox {
     }
 
     /// Undoes a step, which was the latest choice, and takes the next edge, if there is one.
-    fn next_step(&mut self, net: &Net, sums: &mut Weights, slot: u32, edge: u32) -> bool
+    fn next_step(&mut self, net: &Net, beside: &mut Beside, slot: u32, edge: u32) -> bool
         requires led { IsLedTo net.now (Step slot edge ∷ (place_of self.old).choices) self.old }
-        requires totals { AreTotals net.now self.old.links sums.old }
+        requires beside { GoWith net.now beside.old.known.rules.now self.old.links beside.old }
         requires room { length self.old.choices.items < self.old.links.room }
         ensures place { GivesNext net.now (Step slot edge) self.old self.new result }
-        ensures totals { AreTotals net.now self.new.links sums.new }
+        ensures beside { GoWith net.now beside.old.known.rules.now self.new.links beside.new }
     {
-        sums.clear(net, &self.links, slot);
+        beside.sums.clear(net, &self.links, slot);
+        beside.known.set_back(&self.links);
         self.links.unlink_last();
         match next_after(net, edge) {
             Some(next) => {
-                self.step(net, sums, slot, next);
+                self.step(net, beside, slot, next);
                 true
             }
             None => false,

@@ -1,4 +1,4 @@
-use Rattle.std.proofs.Common.{◌∙◌, sym, subst, arith, inl, inr}
+use Rattle.std.proofs.Common.{sym, subst, arith, inl, inr}
 use Rattle.std.proofs.lemmas.Bool.{iff_false}
 use Rattle.decomposition.specs.Reach.{IsBegun}
 use Rattle.link_cells.specs.Links.{walk_of}

@@ -1,6 +1,5 @@
-use Rattle.std.proofs.Common.{sym, ap, ◌∙◌, subst, arith}
+use Rattle.std.proofs.Common.{sym, ap, ◌∙◌}
 use Rattle.decomposition.specs.Graph.{is_source}
-use Rattle.dag_net.specs.Chain.{IsFirstOut}
 use Rattle.refute_tree.proofs.NextEdges.{next-at_source, next-at_vertex}
 use Rattle.refute_tree.proofs.next.next_after.Goals as goal
 

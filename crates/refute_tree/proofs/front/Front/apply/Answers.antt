@@ -5,6 +5,7 @@ use Rattle.flow_models.specs.Problem.{instance}
 use Rattle.refute_tree.specs.Front.{Boxes, first_of, closing}
 use Rattle.refute_tree.specs.Kept.{shown, KeepsFirst, Replaces}
 use Rattle.refute_tree.specs.Choices.{waiting}
+use Rattle.refute_tree.specs.Ends.{AreSeen}
 use Rattle.refute_tree.specs.Sums.{SumsUp}
 use Rattle.refute_tree.specs.OneBox.{place_of, box_of, boxes_of, IsBoxBegun}
 use Rattle.refute_tree.proofs.Applied.{Came, came, gone, applies, kept-boxes, left_more}
@@ -86,9 +87,22 @@ mend-requires-clause-begun c =
 pub closing_token-self-inside-requires-clause-kept : goal.closing_token-self-inside-requires-clause-kept
 closing_token-self-inside-requires-clause-kept c = (came_here (goal.at.closing_token-self-inside-requires-clause-kept c).After-replace_first-self-inside c.if-not-self.false).box
 
-pub closing_token-self-inside-requires-clause-room : goal.closing_token-self-inside-requires-clause-room
-closing_token-self-inside-requires-clause-room c =
-    c.mend.ensures.totals.room.uppers ∙ (came_here (goal.at.closing_token-self-inside-requires-clause-room c).After-replace_first-self-inside c.if-not-self.false).box.slots
+-- what is known is of the new walks
+known : (c : After-replace_first-self-inside) → AreSeen c.self.inside.problem.now.rules c.replace_first-self-inside.new.one.links.links c.replace_first-self-inside.new.beside.known
+known c =
+    subst (λ rules. AreSeen rules c.replace_first-self-inside.new.one.links.links c.replace_first-self-inside.new.beside.known) (keeps c).known.same
+    c.replace_first-self-inside.ensures.beside.known
+
+pub closing_token-self-inside-requires-clause-beside : goal.closing_token-self-inside-requires-clause-beside
+closing_token-self-inside-requires-clause-beside c =
+    let b = (goal.at.closing_token-self-inside-requires-clause-beside c).After-replace_first-self-inside in
+    let i = instance c.self.inside.net.now c.self.inside.problem.now in
+    let new = c.replace_first-self-inside.new.one in
+    record {
+      room = c.mend.ensures.totals.room.uppers ∙ (came_here b c.if-not-self.false).box.slots;
+      sums = subst (λ rs. SumsUp i (box_of rs new.links.links) c.mend.new.self) c.deref.ensures.value c.mend.ensures.sums;
+      known = known b;
+    }
 
 pub invariant_of-self-2 : goal.invariant_of-self-2
 invariant_of-self-2 c =
@@ -108,6 +122,7 @@ invariant_of-self-2 c =
         spent = omega (arith, here.few, old.spent);
         totals = c.mend.ensures.totals;
         sums = subst (λ rs. SumsUp i (box_of rs new.links.links) c.mend.new.self) c.deref.ensures.value c.mend.ensures.sums;
+        known = known b;
       };
       closing = closing-first (shown a) c.replace_first-self-inside.result (place_of new).box (waiting a.net.now (place_of new).box (place_of new).choices) c.closing_token-self-inside.result c.if-not-self.false c.closing_token-self-inside.ensures;
       left = left_more (shown a) _ c.args.token (boxes_of a.net.now new) c.self.invariant.left (ap (after_token i a.decision.limit c.args.token) (kept-boxes a (has b)) ∙ here.boxes)

@@ -10,6 +10,15 @@ pub mend-requires-clause-totals : goal.mend-requires-clause-totals
 mend-requires-clause-totals c =
     c.in_ok-sums.ensures c.args.net.now c.in_ok-one.one.links (sym c.edges.ensures.edges) (omega (arith, c.in_ok-one.ensures.kept.slots, c.in_ok-one.ensures.slots))
 
+pub closing_token-closing-requires-clause-beside : goal.closing_token-closing-requires-clause-beside
+closing_token-closing-requires-clause-beside c =
+    let one = c.in_ok-one.one in
+    record {
+      room = c.mend.ensures.totals.room.uppers ∙ c.in_ok-one.ensures.kept.slots;
+      sums = subst (λ rs. SumsUp (instance c.args.net.now c.args.p.now) (box_of rs one.links.links) c.mend.new.self) c.deref.ensures.value c.mend.ensures.sums;
+      known = c.in_ok-known.ensures one.links.links;
+    }
+
 pub invariant_of-result : goal.invariant_of-result
 invariant_of-result c =
     let g = c.args.net.now in
@@ -26,6 +35,7 @@ invariant_of-result c =
         spent = omega (arith, ap (λ (p : Place). length p.choices) place, length-reverse one.choices.items);
         totals = c.mend.ensures.totals;
         sums = subst (λ rs. SumsUp i (box_of rs one.links.links) c.mend.new.self) c.deref.ensures.value c.mend.ensures.sums;
+        known = c.in_ok-known.ensures one.links.links;
       };
       closing = c.closing_token-closing.ensures;
       left = record {

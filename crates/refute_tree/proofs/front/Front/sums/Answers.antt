@@ -6,7 +6,7 @@ use Rattle.refute_tree.proofs.front.Front.sums.Goals as goal
 use Rattle.refute_tree.proofs.front.Front.sums.Goals.{After-self}
 
 -- the edge is one of those that weights are kept for
-inside : (c : After-self) → (c.args.edge < vec_len c.self.inside.sums.low) × (c.args.edge < vec_len c.self.inside.sums.high)
+inside : (c : After-self) → (c.args.edge < vec_len c.self.inside.beside.sums.low) × (c.args.edge < vec_len c.self.inside.beside.sums.high)
 inside c =
     let room = (first-kept c.self.inside c.args.self.now c.self.view_is c.self.invariant c.requires.some).totals.room in
     let edges = ap (λ (x : Boxes). edge_count x.instance.graph) c.self.view_is in
@@ -23,10 +23,10 @@ high_on-requires-clause-small c = (sums-kept c.self.inside c.args.self.now c.sel
 
 pub returns-clause-low : goal.returns-clause-low
 returns-clause-low c =
-    let there : c.args.edge < length c.self.inside.sums.low.items = omega (arith, (inside (goal.at.returns-clause-low c).After-self).0, c.self.inside.sums.low.ok.0) in
+    let there : c.args.edge < length c.self.inside.beside.sums.low.items = omega (arith, (inside (goal.at.returns-clause-low c).After-self).0, c.self.inside.beside.sums.low.ok.0) in
     c.low_on.ensures ∙ (sums-kept c.self.inside c.args.self.now c.self.view_is c.self.invariant c.requires.some).low c.args.edge there
 
 pub returns-clause-high : goal.returns-clause-high
 returns-clause-high c =
-    let there : c.args.edge < length c.self.inside.sums.high.items = omega (arith, (inside (goal.at.returns-clause-high c).After-self).1, c.self.inside.sums.high.ok.0) in
+    let there : c.args.edge < length c.self.inside.beside.sums.high.items = omega (arith, (inside (goal.at.returns-clause-high c).After-self).1, c.self.inside.beside.sums.high.ok.0) in
     c.high_on.ensures ∙ (sums-kept c.self.inside c.args.self.now c.self.view_is c.self.invariant c.requires.some).high c.args.edge there

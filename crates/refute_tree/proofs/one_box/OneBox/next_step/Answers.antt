@@ -11,6 +11,7 @@ use Rattle.refute_tree.specs.declared.one_box.OneBox.{OneBox}
 use Rattle.link_cells.specs.Links.{LinkList, walk_of}
 use Rattle.refute_tree.specs.OneBox.{box_of}
 use Rattle.refute_tree.proofs.Leading.{place_is, next_some, next_none, unlink_split, unlink_left, unlink_led, unlink_box, unlink_next, unlink_inside}
+use Rattle.refute_tree.specs.Ends.{AreSeen, GoWith}
 use Rattle.refute_tree.specs.Sums.{ChangesWalk}
 use Rattle.refute_tree.proofs.SumsBoxes.{begun-at}
 use Rattle.refute_tree.proofs.SumsTotals.{unlinked}
@@ -52,11 +53,23 @@ clear-requires-clause-begun c =
     let inside = All-head (λ d. slot_of d < length old.ranges.items) (Step c.args.slot c.args.edge) (reverse old.choices.items) c.requires.led.within in
     begun-at c.args.net.now old.ranges.items old.links.links c.args.slot inside c.requires.led.begun
 
-pub step-requires-clause-totals : goal.step-requires-clause-totals
-step-requires-clause-totals c = c.clear.ensures c.unlink_last.new.self (changes (goal.at.step-requires-clause-totals c).After-unlink_last)
+-- the sums and what is known of the walks are those without the link
+beside : (c : After-unlink_last) → GoWith c.args.net.now c.args.beside.now.known.rules.now c.unlink_last.new.self (record { sums = c.clear.new.self; known = c.set_back.new.self })
+beside c = record {
+  totals = c.clear.ensures c.unlink_last.new.self (changes c);
+  known = subst (λ (l : LinkList). AreSeen c.args.beside.now.known.rules.now l.links c.set_back.new.self) (sym c.unlink_last.ensures) c.set_back.ensures;
+}
 
-pub returns-in-None-clause-totals : goal.returns-in-None-clause-totals
-returns-in-None-clause-totals c = c.clear.ensures c.unlink_last.new.self (changes (goal.at.returns-in-None-clause-totals c).After-unlink_last)
+pub step-requires-clause-beside : goal.step-requires-clause-beside
+step-requires-clause-beside c =
+    let b = (goal.at.step-requires-clause-beside c).After-unlink_last in
+    subst (λ rules. GoWith c.args.net.now rules c.unlink_last.new.self (record { sums = c.clear.new.self; known = c.set_back.new.self })) (sym c.set_back.ensures.same) (beside b)
+
+pub returns-in-None-clause-beside : goal.returns-in-None-clause-beside
+returns-in-None-clause-beside c = beside (goal.at.returns-in-None-clause-beside c).After-unlink_last
+
+pub returns-in-Some-clause-beside : goal.returns-in-Some-clause-beside
+returns-in-Some-clause-beside c = subst (λ rules. GoWith c.args.net.now rules c.step.new.self.links c.step.new.beside) c.set_back.ensures.same c.step.ensures.beside
 
 pub next_after-requires : goal.next_after-requires
 next_after-requires c =

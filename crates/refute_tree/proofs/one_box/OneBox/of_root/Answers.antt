@@ -1,5 +1,4 @@
 use Rattle.std.proofs.Common.{◌≡◌, replicate, rules, arith}
-use Rattle.decomposition.specs.declared.Range.{Range}
 use Rattle.refute_tree.specs.declared.one_box.OneBox.{OneBox}
 use Rattle.refute_tree.proofs.RootBox.{root_place, root_kept}
 use Rattle.refute_tree.proofs.one_box.OneBox.of_root.Goals as goal

@@ -1,5 +1,5 @@
 use Rattle.std.proofs.Common.{length}
-use Rattle.refute_tree.specs.Sums.{AreTotals}
+use Rattle.refute_tree.specs.Ends.{GoWith}
 use Rattle.refute_tree.proofs.Leading.{UndoesSame}
 use Rattle.refute_tree.proofs.one_box.OneBox.undo.Given as goal
 
@@ -7,7 +7,7 @@ use Rattle.refute_tree.proofs.one_box.OneBox.undo.Given as goal
 abbrev pub invariant-loop-self : goal.invariant-loop-self
 invariant-loop-self l = record {
   same : UndoesSame l.net l.initial.self l.self;
-  totals : AreTotals l.net l.self.links l.sums;
+  beside : GoWith l.net l.initial.beside.known.rules.now l.self.links l.beside;
 }
 
 abbrev pub decreases-loop-self : goal.decreases-loop-self
