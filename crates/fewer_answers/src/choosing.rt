@@ -2,9 +2,8 @@
 
 use crate::through::Through;
 use crate::walks::Walks;
-use flow_kernels::FlowNet;
 use flow_sweeps::Means;
-use search_rooms::Pile;
+use search_rooms::{FlowNet, Pile};
 use std::alloc::{AllocError, Global};
 
 /// A trial has from so many to so many paths.

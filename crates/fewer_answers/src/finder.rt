@@ -5,9 +5,9 @@ use crate::starts::Starts;
 use crate::tastes::{TASTES, Taste};
 use crate::tools::Tools;
 use dag_net::{Answer, Net};
-use flow_kernels::{Kernel, Paths};
+use flow_kernels::Kernel;
 use flow_sweeps::{How, Means, Rooms};
-use search_rooms::{Chance, Purse};
+use search_rooms::{Chance, Paths, Purse};
 use std::alloc::{AllocError, Global};
 
 /// The lots of a finder begin here.

@@ -8,9 +8,8 @@ use crate::tastes::{TASTES, Taste};
 use crate::through::Through;
 use crate::tools::Tools;
 use crate::walks::Walks;
-use flow_kernels::{FlowNet, Paths};
 use flow_sweeps::{How, Means, Rooms};
-use search_rooms::Pile;
+use search_rooms::{FlowNet, Paths, Pile};
 use std::alloc::{AllocError, Global};
 
 /// A trial tries so many cuts at the start.

@@ -1,9 +1,9 @@
 //! The net of the sum of some paths, and its kernel.
 
 use crate::walks::Walks;
-use flow_kernels::{Contraction, FlowNet, Paths};
+use flow_kernels::Contraction;
 use flow_sweeps::{Means, Rooms};
-use search_rooms::{Amounts, NONE, Names, Pile, Purse};
+use search_rooms::{Amounts, FlowNet, NONE, Names, Paths, Pile, Purse};
 use std::alloc::{AllocError, Global};
 
 /// A sum costs so many visits for each of its edges; what the contraction does is paid for with that.

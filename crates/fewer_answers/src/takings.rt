@@ -2,9 +2,8 @@
 //! path empties most edges and leaves most numbers that other edges have too, the heavier the better; or simply the widest path.
 
 use crate::tastes::Taste;
-use flow_kernels::{FlowNet, Paths};
 use flow_sweeps::{Means, Rooms, Votes};
-use search_rooms::{Amounts, NONE, Names, Pile};
+use search_rooms::{Amounts, FlowNet, NONE, Names, Paths, Pile};
 use std::alloc::{AllocError, Global};
 
 /// What an edge scores that is emptied.

@@ -1,9 +1,9 @@
 //! What makes answers of a net: a widest cut or another one, sweeps from it, and takings.
 
 use crate::takings::Takings;
-use flow_kernels::{Cover, FlowNet};
+use flow_kernels::Cover;
 use flow_sweeps::{How, Means, Rooms, Sweep};
-use search_rooms::Pile;
+use search_rooms::{FlowNet, Pile};
 use std::alloc::{AllocError, Global};
 
 /// Sweeps and takings, with the cut where a sweep starts.

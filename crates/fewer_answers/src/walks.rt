@@ -1,7 +1,6 @@
 //! The paths of an answer, each in a room of its own, so that one can take the place of another.
 
-use flow_kernels::Paths;
-use search_rooms::{Names, Pile};
+use search_rooms::{Names, Paths, Pile};
 use std::alloc::{AllocError, Global};
 
 /// The paths have at most so many edges in all.

@@ -4,9 +4,7 @@
 //! vertex has two edges or more on both sides, if the room for joined runs lasts; it may stop anywhere.
 
 use crate::chains::Chains;
-use crate::flow_net::FlowNet;
-use crate::paths::Paths;
-use search_rooms::{NONE, Names, Pile, Purse};
+use search_rooms::{FlowNet, NONE, Names, Paths, Pile, Purse};
 use std::alloc::{AllocError, Global};
 
 /// For each edge at most so many runs are joined, on the average.

@@ -1,7 +1,6 @@
 //! A widest antichain of a net with one source and one sink: paths that cover each edge, as few as can be, and a cut that shows it.
 
-use crate::flow_net::FlowNet;
-use search_rooms::{NONE, Names, Pile, Purse};
+use search_rooms::{FlowNet, NONE, Names, Pile, Purse};
 use std::alloc::{AllocError, Global};
 
 /// How a vertex was reached: not at all, as the source, forward over an edge, or backward.

@@ -2,11 +2,9 @@
 
 use crate::contraction::Contraction;
 use crate::cuts::Cover;
-use crate::flow_net::FlowNet;
-use crate::paths::Paths;
 use crate::whole::Whole;
 use dag_net::{Answer, Ids, Net};
-use search_rooms::{NONE, Pile, Purse, View};
+use search_rooms::{FlowNet, NONE, Paths, Pile, Purse, View};
 use std::alloc::{AllocError, Global};
 
 /// The whole net of a flow, its kernel, and a widest antichain of that.

@@ -1,5 +1,4 @@
-//! Flows with one source and one sink, and what answers of few paths start from: the kernel of a flow by contraction, and a widest
-//! cut of it.
+//! What answers of few paths start from: the kernel of a flow with one source and one sink, by contraction, and a widest cut of it.
 //!
 //! Trusted for nothing but being safe and coming to an end: what comes out is checked before it counts. All room is asked for
 //! once, and all work is counted.
@@ -7,14 +6,10 @@
 
 pub use contraction::Contraction;
 pub use cuts::Cover;
-pub use flow_net::FlowNet;
 pub use kernel::Kernel;
-pub use paths::Paths;
 
 mod chains;
 mod contraction;
 mod cuts;
-mod flow_net;
 mod kernel;
-mod paths;
 mod whole;

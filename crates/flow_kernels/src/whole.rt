@@ -1,7 +1,6 @@
 //! The flow of any net as one with one source and one sink: an edge more to each source, and one from each sink.
 
-use crate::flow_net::FlowNet;
-use search_rooms::{NONE, Names, Pile, View};
+use search_rooms::{FlowNet, NONE, Names, Pile, View};
 use std::alloc::{AllocError, Global};
 
 /// The net of all edges with a flow, and for each of its edges the one that it stands for, or none.

@@ -5,8 +5,7 @@ use crate::means::Means;
 use crate::pieces::Pieces;
 use crate::rooms::Rooms;
 use crate::shares::Shares;
-use flow_kernels::{FlowNet, Paths};
-use search_rooms::{NONE, Names, Pile};
+use search_rooms::{FlowNet, NONE, Names, Paths, Pile};
 use std::alloc::{AllocError, Global};
 
 /// The pieces of one half, the first of them at each vertex or of each initial part, and the next one there.

@@ -1,7 +1,6 @@
 //! Pieces of the flow: each has a weight, an initial part that it comes of, and a walk, which pieces of one part may share.
 
-use flow_kernels::Paths;
-use search_rooms::{NONE, Pile};
+use search_rooms::{NONE, Paths, Pile};
 use std::alloc::{AllocError, Global};
 
 /// An edge of a walk, and the link before it.

@@ -8,8 +8,7 @@ use crate::loads::{Cut, Load};
 use crate::means::Means;
 use crate::rooms::{MOST_ROUNDS, Rooms};
 use crate::shares::Shares;
-use flow_kernels::{FlowNet, Paths};
-use search_rooms::Pile;
+use search_rooms::{FlowNet, Paths, Pile};
 use std::alloc::{AllocError, Global};
 use std::mem;
 

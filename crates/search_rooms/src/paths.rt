@@ -1,6 +1,6 @@
 //! Paths side by side in one list, with their weights.
 
-use search_rooms::Pile;
+use crate::pile::Pile;
 use std::alloc::{AllocError, Global};
 
 /// Weighted paths in a room that is asked for once.

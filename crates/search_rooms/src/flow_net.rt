@@ -2,7 +2,8 @@
 //!
 //! The flow of any net is brought to this form with one edge to each source and one from each sink; the sum of some paths is, too.
 
-use search_rooms::{Names, Pile};
+use crate::lists::Names;
+use crate::pile::Pile;
 use std::alloc::{AllocError, Global};
 
 /// The edges by the vertex at one of their ends, side by side in rising order, and where those of each vertex begin.
