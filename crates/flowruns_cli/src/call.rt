@@ -4,8 +4,8 @@ ghost use Rattle.flow_io.specs.Outside.{Rose};
 ghost use Rattle.flowruns_cli.specs.RightTexts.{AreRightTexts, AreAllRightTexts};
 ghost use Rattle.flowruns_cli.specs.Run.{texts, file_in, WhereSeen, WhereWritten, Reads, Writes, Notes, note_of};
 
-use crate::weighing::Weighing;
 use crate::telling::tell;
+use crate::weighing::Weighing;
 use block_runs::run_input;
 use flow_io::{Inputs, Output, Status};
 use plain_words::file_in;

@@ -1,5 +1,5 @@
 //! The lines that tell a run and the paths of a decomposition.
-ghost use Rattle.std.specs.Prelude.{◌≡◌, ◌++◌, codes, flat_map, All, OnOk};
+ghost use Rattle.std.specs.Prelude.{◌≡◌, ◌++◌, flat_map, All, OnOk};
 ghost use Rattle.decomposition.specs.Graph.{IsRun};
 ghost use Rattle.report_reading.specs.Names.{graph_at, names_along};
 ghost use Rattle.text_lines.specs.TextLines.{spaced};
