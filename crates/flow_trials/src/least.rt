@@ -41,7 +41,11 @@ const LEAST: [(&str, &str, Status); 11] = [
         "graph 1\nend\ngraph 2\nleast 2 u v\npath 2 u v\nend\n",
         Status::Clean,
     ),
-    (UNEQUAL, "graph 1 x\nrefused 3 Unconserved\nend\n", Status::Refused),
+    (
+        UNEQUAL,
+        "graph 1 x\nrefused 3 Unconserved\nend\n",
+        Status::Refused,
+    ),
     (
         "# x\n#S s t\n#S s u\n2\ns t 1\n",
         "graph 1 x\nrefused 3 UnknownEdge\nend\n",
@@ -105,7 +109,8 @@ fn words_of_flowruns_that_name_no_input_are_refused(rt: HostRuntime) -> Result<(
     for words in REFUSED {
         let mut inputs = MemInputs::new(alloc, ROOM);
         inputs.add("-", ONE.as_bytes())?;
-        let ran = run(alloc, words, &mut inputs, MemOutput::new(alloc, ROOM, ROOM)?)?;
+        let out = MemOutput::new(alloc, ROOM, ROOM)?;
+        let ran = run(alloc, words, &mut inputs, out)?;
         assert_eq!(rt; ran.status, Status::Words, "{words:?}");
         assert!(rt; ran.out.bytes().is_empty(), "{words:?}");
         assert!(rt;
