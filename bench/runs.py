@@ -37,6 +37,9 @@ class Graph:
     def names(self, walk):
         return [self.ends[walk[0]][0]] + [self.ends[e][1] for e in walk]
 
+    def text(self, name):
+        return text_of(name, map(self.names, self.asked), [(*ends, weight) for ends, weight in zip(self.ends, self.flow)])
+
 
 def sums_of(edges, answer):
     """What weighted paths put on each edge."""
@@ -173,7 +176,7 @@ def graph_fault(number, graph, lines):
 def compare(program, folder, count=1000, seed=1):
     draw = random.Random(int(seed))
     graphs = [some_graph(draw) for _ in range(int(count))]
-    texts = [text_of(f"g{number}", map(graph.names, graph.asked), [(*ends, w) for ends, w in zip(graph.ends, graph.flow)]) for number, graph in enumerate(graphs, 1)]
+    texts = [graph.text(f"g{number}") for number, graph in enumerate(graphs, 1)]
     done = ran(program, folder, "".join(texts))
     blocks = done.output.split("end\n")
     if done.status != 0 or len(blocks) != len(graphs) + 1:
@@ -226,7 +229,8 @@ def cost_row(program, folder, family, seconds):
     done = ran(program, folder, text_of(family, runs, [(*edge, weight) for edge, weight in weights.items()]))
     lines = done.output.splitlines()
     is_right = [line for line in lines if line.startswith("least ")] == list(least_lines(weights, runs))
-    row_of([family, len(weights), len(runs), sum(line.startswith("path ") for line in lines), f"{len(done.output) / 1e6:.1f}", f"{done.peak / 1000:.1f}", f"{done.seconds:.3f}"])
+    shown = sum(line.startswith("path ") for line in lines)
+    row_of([family, len(weights), len(runs), shown, f"{len(done.output) / 1e6:.1f}", f"{done.peak / 1000:.1f}", f"{done.seconds:.3f}"])
     if done.status != 0 or not is_right:
         print(f"{family}: status {done.status}, or a least weight is another")
     return done.status == 0 and is_right and done.seconds < seconds
