@@ -1,4 +1,4 @@
-//! Trials of the two programs, over inputs and outputs in memory, and a law on both.
+//! Trials of the programs, over inputs and outputs in memory, and a law on two of them.
 #![tactic(auto)]
 
 mod answered;
@@ -12,6 +12,8 @@ mod free;
 mod generated;
 #[cfg(test)]
 mod large;
+#[cfg(test)]
+mod least;
 #[cfg(test)]
 mod near;
 #[cfg(test)]
