@@ -1,6 +1,6 @@
 -- Flows that carry every needed edge, and what is missing where a unit is on its way.
-use Rattle.std.specs.Prelude.{◌≡◌, ℕ, ◌+◌, ◌≤◌, ◌<◌, ◌==◌, Bool, cond, IsTrue}
-use Rattle.decomposition.specs.Graph.{Graph, edge_count, head, is_inner, is_source, is_sink}
+use Rattle.std.specs.Prelude.{◌≡◌, ℕ, ◌+◌, ◌^◌, ◌≤◌, ◌<◌, ◌==◌, Bool, cond, List, length, slice_index, IsTrue}
+use Rattle.decomposition.specs.Graph.{Graph, IsNet, edge_count, head, is_inner, is_source, is_sink}
 use Rattle.decomposition.specs.Answer.{sum_below}
 use Rattle.decomposition.specs.Flow.{IsBalanced, flow_into, flow_out_of}
 
@@ -41,3 +41,23 @@ IsSentOn g old new v = (a : ℕ) → IsBalancedBut g old a v → (b : ℕ) × Is
 -- the unit that is to enter v enters a source in its place
 abbrev pub IsBroughtIn : Graph → (ℕ → ℕ) → (ℕ → ℕ) → ℕ → Type 0
 IsBroughtIn g old new v = (b : ℕ) → IsBalancedBut g old v b → (a : ℕ) × IsTrue (is_source g a) × IsBalancedBut g new a b
+
+-- a flow and a need of each edge of a net, with room for one unit more of each vertex
+pub record MaySend (g : Graph) (needed : List Bool) (flow : List ℕ) : Type 0 where
+  pub net : IsNet g
+  pub one_need : length needed ≡ edge_count g
+  pub one_flow : length flow ≡ edge_count g
+  pub small : (e : ℕ) → slice_index flow e + g.vertices < 2 ^ 64
+
+-- a flow and a need of each edge of a net, with room for a path more
+pub record MayCarry (g : Graph) (needed : List Bool) (flow : List ℕ) : Type 0 where
+  pub net : IsNet g
+  pub vertices : g.vertices ≤ 8192
+  pub one_need : length needed ≡ edge_count g
+  pub one_flow : length flow ≡ edge_count g
+  pub small : (e : ℕ) → slice_index flow e < 2 ^ 63
+
+-- no edge has less than before, none has more than 16,385 units more, and a balanced flow stays balanced
+pub record IsPathMore (g : Graph) (old new : ℕ → ℕ) : Type 0 where
+  pub more : IsMore old new 16385
+  pub balanced : IsBalanced g old → IsBalanced g new

@@ -1,11 +1,12 @@
 -- What a search for a way to less flow has found.
-use Rattle.std.specs.Prelude.{◌≡◌, ◌≢◌, ℕ, ◌<◌, ◌≤◌, ◌⊎◌, Bool, true, cond, not, List, [], ◌∷◌, ◌++◌, length, slice_set, Option, None, MatchOption, slice_index_or, IsTrue}
+use Rattle.std.specs.Prelude.{◌≡◌, ◌≢◌, ℕ, ◌+◌, ◌^◌, ◌<◌, ◌≤◌, ◌⊎◌, Bool, true, cond, not, List, [], ◌∷◌, ◌++◌, length, vec_len, slice_index, slice_set, Option, None, MatchOption, slice_index_or, IsTrue}
 use Rattle.decomposition.specs.Graph.{Graph, edge_count, tail, head, is_source, is_sink}
 use Rattle.decomposition.specs.Answer.{sum_below}
 use Rattle.dag_net.specs.Marks.{is_set}
-use Rattle.path_cover.specs.Carrying.{least_flow}
+use Rattle.path_cover.specs.Carrying.{least_flow, IsCarrying}
 use Rattle.path_cover.specs.Cut.{IsClosed}
 use Rattle.path_cover.specs.declared.search.Reached.{Reached}
+use Rattle.path_cover.specs.declared.search.Search.{Search}
 
 -- the entry at a place
 abbrev pub entry_at : List Reached → ℕ → Reached
@@ -68,3 +69,26 @@ AreSourcesMarked g n marked = (e : ℕ) → e < n → IsTrue (is_source g (tail 
 abbrev pub EndsAt : Graph → (ℕ → Bool) → (ℕ → ℕ) → List Reached → List Bool → Option ℕ → Type 0
 EndsAt g needed flow entries marked end =
     MatchOption end (IsClosed g needed flow (is_set marked)) (λ k. (k < length entries) × IsTrue (is_sink g (entry_at entries k).vertex))
+
+-- a search for a flow and a need of each edge, whose entry at place k may go on: it is no sink
+pub record MayVisit (g : Graph) (flow : List ℕ) (needed : List Bool) (s : Search) (k : ℕ) : Type 0 where
+  pub one_flow : length flow ≡ edge_count g
+  pub one_need : length needed ≡ edge_count g
+  pub place : k < vec_len s.entries
+  pub goes_on : IsTrue (not (is_sink g (entry_at s.entries.items k).vertex))
+  pub search : IsSearch g (is_set needed) (slice_index flow) s.entries.items s.marked.items
+
+-- the search is still right, and what was there is still there
+pub record KeepsSearch (g : Graph) (flow : List ℕ) (needed : List Bool) (old new : Search) : Type 0 where
+  pub search : IsSearch g (is_set needed) (slice_index flow) new.entries.items new.marked.items
+  pub grows : Grows old.entries.items old.marked.items new.entries.items new.marked.items
+
+-- a search that came to a sink at place `last`, where the flow carries the needed edges and has room for one unit more of each vertex
+pub record MayTakeUnit (g : Graph) (needed : List Bool) (flow : List ℕ) (s : Search) (last : ℕ) : Type 0 where
+  pub one_need : length needed ≡ edge_count g
+  pub one_flow : length flow ≡ edge_count g
+  pub search : IsSearch g (is_set needed) (slice_index flow) s.entries.items s.marked.items
+  pub carrying : IsCarrying g (is_set needed) (slice_index flow)
+  pub place : last < vec_len s.entries
+  pub sink : IsTrue (is_sink g (entry_at s.entries.items last).vertex)
+  pub small : (e : ℕ) → slice_index flow e + g.vertices < 2 ^ 64

@@ -3,7 +3,7 @@
 ghost use Rattle.std.specs.Prelude.{◌≡◌, ℕ, ◌+◌, ◌<◌, ◌≤◌, ◌^◌, length, slice_index, IfOk};
 ghost use Rattle.decomposition.specs.Graph.{edge_count, tail, head, IsNet};
 ghost use Rattle.decomposition.specs.Flow.{IsBalanced};
-ghost use Rattle.path_cover.specs.Carrying.{least_flow, IsCarrying, most_at_first, IsMore, IsSentOn, IsBroughtIn};
+ghost use Rattle.path_cover.specs.Carrying.{least_flow, IsCarrying, most_at_first, IsMore, IsSentOn, IsBroughtIn, IsPathMore, MaySend, MayCarry};
 ghost use Rattle.dag_net.specs.Entering.{EnterFrom};
 ghost use Rattle.dag_net.specs.Marks.{is_set};
 
@@ -13,11 +13,8 @@ use std::alloc::{AllocError, Global};
 
 /// Sends one unit more from `v` on to a sink.
 fn send_on(net: &Net, needed: &[bool], flow: &mut [u64], v: u32)
-    requires net { IsNet net.now }
     requires vertex { v < net.now.vertices }
-    requires needed { length needed.now ≡ edge_count net.now }
-    requires one_each { length flow.old ≡ edge_count net.now }
-    requires small { (e : ℕ) → slice_index flow.old e + net.now.vertices < 2 ^ 64 }
+    requires room { MaySend net.now needed.now flow.old }
     ensures more { IsMore (slice_index flow.old) (slice_index flow.new) net.now.vertices }
     ensures sent { IsSentOn net.now (slice_index flow.old) (slice_index flow.new) v }
 {
@@ -30,12 +27,9 @@ fn send_on(net: &Net, needed: &[bool], flow: &mut [u64], v: u32)
 
 /// Brings one unit more from a source to `v`.
 fn bring_in(net: &Net, entering: &Entering, needed: &[bool], flow: &mut [u64], v: u32)
-    requires net { IsNet net.now }
     requires vertex { v < net.now.vertices }
     requires entering { EnterFrom net.now 0 entering.now.first.items entering.now.next.items }
-    requires needed { length needed.now ≡ edge_count net.now }
-    requires one_each { length flow.old ≡ edge_count net.now }
-    requires small { (e : ℕ) → slice_index flow.old e + net.now.vertices < 2 ^ 64 }
+    requires room { MaySend net.now needed.now flow.old }
     ensures more { IsMore (slice_index flow.old) (slice_index flow.new) net.now.vertices }
     ensures brought { IsBroughtIn net.now (slice_index flow.old) (slice_index flow.new) v }
 {
@@ -48,16 +42,11 @@ fn bring_in(net: &Net, entering: &Entering, needed: &[bool], flow: &mut [u64], v
 
 /// Sends one unit along a path through the edge. No path has more than 16,384 other edges: one for each vertex, on both sides.
 fn send_through(net: &Net, entering: &Entering, needed: &[bool], flow: &mut [u64], e: u32)
-    requires net { IsNet net.now }
     requires edge { e < edge_count net.now }
     requires entering { EnterFrom net.now 0 entering.now.first.items entering.now.next.items }
-    requires needed { length needed.now ≡ edge_count net.now }
-    requires one_each { length flow.old ≡ edge_count net.now }
-    requires vertices { net.now.vertices ≤ 8192 }
-    requires small { (d : ℕ) → slice_index flow.old d < 2 ^ 63 }
-    ensures more { IsMore (slice_index flow.old) (slice_index flow.new) 16385 }
+    requires room { MayCarry net.now needed.now flow.old }
+    ensures path { IsPathMore net.now (slice_index flow.old) (slice_index flow.new) }
     ensures carries { 1 ≤ slice_index flow.new e }
-    ensures balanced { IsBalanced net.now (slice_index flow.old) → IsBalanced net.now (slice_index flow.new) }
 {
     flow[e as usize] += 1;
     send_on(net, needed, flow, net.head(e));
@@ -66,16 +55,11 @@ fn send_through(net: &Net, entering: &Entering, needed: &[bool], flow: &mut [u64
 
 /// Sends a unit through the edge where it is needed and has no flow yet.
 fn carry(net: &Net, entering: &Entering, needed: &[bool], flow: &mut [u64], e: u32)
-    requires net { IsNet net.now }
     requires edge { e < edge_count net.now }
     requires entering { EnterFrom net.now 0 entering.now.first.items entering.now.next.items }
-    requires needed { length needed.now ≡ edge_count net.now }
-    requires one_each { length flow.old ≡ edge_count net.now }
-    requires vertices { net.now.vertices ≤ 8192 }
-    requires small { (d : ℕ) → slice_index flow.old d < 2 ^ 63 }
-    ensures more { IsMore (slice_index flow.old) (slice_index flow.new) 16385 }
+    requires room { MayCarry net.now needed.now flow.old }
+    ensures path { IsPathMore net.now (slice_index flow.old) (slice_index flow.new) }
     ensures carries { least_flow (is_set needed.now) e ≤ slice_index flow.new e }
-    ensures balanced { IsBalanced net.now (slice_index flow.old) → IsBalanced net.now (slice_index flow.new) }
 {
     if needed[e as usize] && flow[e as usize] == 0 {
         send_through(net, entering, needed, flow, e);

@@ -1,12 +1,12 @@
 //! Takes units off a flow until no search finds a way to less.
 
-ghost use Rattle.std.specs.Prelude.{◌≡◌, ℕ, ◌+◌, ◌<◌, ◌≤◌, ◌^◌, length, slice_index, vec_len, IsTrue, IfOk, OnOk};
-ghost use Rattle.decomposition.specs.Graph.{edge_count, is_sink, IsNet};
+ghost use Rattle.std.specs.Prelude.{◌≡◌, ℕ, ◌+◌, ◌≤◌, length, slice_index, vec_len, IfOk, OnOk};
+ghost use Rattle.decomposition.specs.Graph.{edge_count, IsNet};
 ghost use Rattle.path_cover.specs.Carrying.{IsCarrying, most_at_first, arriving};
 ghost use Rattle.path_cover.specs.Cut.{IsClosed};
 ghost use Rattle.dag_net.specs.Entering.{EnterFrom};
 ghost use Rattle.dag_net.specs.Marks.{is_set};
-ghost use Rattle.path_cover.specs.Search.{entry_at, IsSearch};
+ghost use Rattle.path_cover.specs.Search.{MayTakeUnit};
 
 use crate::search::{Search, can_spare};
 use dag_net::{Entering, Net};
@@ -14,13 +14,7 @@ use std::alloc::{AllocError, Global};
 
 /// Takes one unit off the way to the entry at place `last`, a sink.
 fn take_unit(net: &Net, search: &Search, needed: &[bool], flow: &mut [u64], last: usize)
-    requires needed { length needed.now ≡ edge_count net.now }
-    requires one_each { length flow.old ≡ edge_count net.now }
-    requires search { IsSearch net.now (is_set needed.now) (slice_index flow.old) search.now.entries.items search.now.marked.items }
-    requires carrying { IsCarrying net.now (is_set needed.now) (slice_index flow.old) }
-    requires place { last < vec_len search.now.entries }
-    requires sink { IsTrue (is_sink net.now (entry_at search.now.entries.items last).vertex) }
-    requires small { (e : ℕ) → slice_index flow.old e + net.now.vertices < 2 ^ 64 }
+    requires { MayTakeUnit net.now needed.now flow.old search.now last }
     ensures carrying { IsCarrying net.now (is_set needed.now) (slice_index flow.new) }
     ensures less { arriving net.now (slice_index flow.new) + 1 ≡ arriving net.now (slice_index flow.old) }
     ensures few { (e : ℕ) → slice_index flow.new e ≤ slice_index flow.old e + net.now.vertices }

@@ -1,11 +1,11 @@
 //! A search from the sources for a way along which one unit less may flow.
 
-ghost use Rattle.std.specs.Prelude.{◌≡◌, ◌⊎◌, ℕ, ◌<◌, ◌↔◌, None, Some, true, false, not, length, vec_len, slice_index, IsTrue, IfOk, OnOk};
-ghost use Rattle.decomposition.specs.Graph.{edge_count, tail, head, is_source, is_sink};
+ghost use Rattle.std.specs.Prelude.{◌≡◌, ◌⊎◌, ℕ, ◌<◌, ◌↔◌, None, Some, true, false, length, vec_len, slice_index, IsTrue, IfOk, OnOk};
+ghost use Rattle.decomposition.specs.Graph.{edge_count, tail, head, is_source};
 ghost use Rattle.path_cover.specs.Carrying.{least_flow};
 ghost use Rattle.dag_net.specs.Entering.{EnterFrom};
 ghost use Rattle.dag_net.specs.Marks.{is_set};
-ghost use Rattle.path_cover.specs.Search.{entry_at, IsSearch, IsBegun, Enters, Grows, IsFollowed, IsVisited, AreSourcesMarked, EndsAt};
+ghost use Rattle.path_cover.specs.Search.{entry_at, IsSearch, IsBegun, Enters, Grows, IsFollowed, IsVisited, AreSourcesMarked, EndsAt, MayVisit, KeepsSearch};
 
 use dag_net::{Entering, Net};
 use std::alloc::{AllocError, Global};
@@ -89,14 +89,9 @@ impl Search {
         e: u32,
     ) -> Result<(), AllocError>
         requires edge { e < edge_count net.now }
-        requires flow { length flow.now ≡ edge_count net.now }
-        requires needed { length needed.now ≡ edge_count net.now }
-        requires place { k < vec_len self.old.entries }
-        requires goes_on { IsTrue (not (is_sink net.now (entry_at self.old.entries.items k).vertex)) }
         requires end { (tail net.now e ≡ (entry_at self.old.entries.items k).vertex) ⊎ (head net.now e ≡ (entry_at self.old.entries.items k).vertex) }
-        requires search { IsSearch net.now (is_set needed.now) (slice_index flow.now) self.old.entries.items self.old.marked.items }
-        ensures search { OnOk result (IsSearch net.now (is_set needed.now) (slice_index flow.now) self.new.entries.items self.new.marked.items) }
-        ensures grows { OnOk result (Grows self.old.entries.items self.old.marked.items self.new.entries.items self.new.marked.items) }
+        requires at { MayVisit net.now flow.now needed.now self.old k }
+        ensures kept { OnOk result (KeepsSearch net.now flow.now needed.now self.old self.new) }
         ensures followed { OnOk result (IsFollowed net.now (is_set needed.now) (slice_index flow.now) self.new.marked.items (entry_at self.old.entries.items k).vertex e) }
     {
         if net.head(e) == self.entries[k].vertex {
@@ -116,13 +111,8 @@ impl Search {
         needed: &[bool],
         k: usize,
     ) -> Result<(), AllocError>
-        requires flow { length flow.now ≡ edge_count net.now }
-        requires needed { length needed.now ≡ edge_count net.now }
-        requires place { k < vec_len self.old.entries }
-        requires goes_on { IsTrue (not (is_sink net.now (entry_at self.old.entries.items k).vertex)) }
-        requires search { IsSearch net.now (is_set needed.now) (slice_index flow.now) self.old.entries.items self.old.marked.items }
-        ensures search { OnOk result (IsSearch net.now (is_set needed.now) (slice_index flow.now) self.new.entries.items self.new.marked.items) }
-        ensures grows { OnOk result (Grows self.old.entries.items self.old.marked.items self.new.entries.items self.new.marked.items) }
+        requires { MayVisit net.now flow.now needed.now self.old k }
+        ensures kept { OnOk result (KeepsSearch net.now flow.now needed.now self.old self.new) }
         ensures followed { OnOk result ((e : ℕ) → e < edge_count net.now → tail net.now e ≡ (entry_at self.old.entries.items k).vertex → IsFollowed net.now (is_set needed.now) (slice_index flow.now) self.new.marked.items (entry_at self.old.entries.items k).vertex e) }
     {
         let mut out = net.first_out(self.entries[k].vertex);
@@ -143,13 +133,8 @@ impl Search {
         k: usize,
     ) -> Result<(), AllocError>
         requires entering { EnterFrom net.now 0 entering.now.first.items entering.now.next.items }
-        requires flow { length flow.now ≡ edge_count net.now }
-        requires needed { length needed.now ≡ edge_count net.now }
-        requires place { k < vec_len self.old.entries }
-        requires goes_on { IsTrue (not (is_sink net.now (entry_at self.old.entries.items k).vertex)) }
-        requires search { IsSearch net.now (is_set needed.now) (slice_index flow.now) self.old.entries.items self.old.marked.items }
-        ensures search { OnOk result (IsSearch net.now (is_set needed.now) (slice_index flow.now) self.new.entries.items self.new.marked.items) }
-        ensures grows { OnOk result (Grows self.old.entries.items self.old.marked.items self.new.entries.items self.new.marked.items) }
+        requires at { MayVisit net.now flow.now needed.now self.old k }
+        ensures kept { OnOk result (KeepsSearch net.now flow.now needed.now self.old self.new) }
         ensures followed { OnOk result ((e : ℕ) → e < edge_count net.now → head net.now e ≡ (entry_at self.old.entries.items k).vertex → IsFollowed net.now (is_set needed.now) (slice_index flow.now) self.new.marked.items (entry_at self.old.entries.items k).vertex e) }
     {
         let mut into = entering.first[self.entries[k].vertex as usize];
@@ -170,13 +155,8 @@ impl Search {
         k: usize,
     ) -> Result<(), AllocError>
         requires entering { EnterFrom net.now 0 entering.now.first.items entering.now.next.items }
-        requires flow { length flow.now ≡ edge_count net.now }
-        requires needed { length needed.now ≡ edge_count net.now }
-        requires place { k < vec_len self.old.entries }
-        requires goes_on { IsTrue (not (is_sink net.now (entry_at self.old.entries.items k).vertex)) }
-        requires search { IsSearch net.now (is_set needed.now) (slice_index flow.now) self.old.entries.items self.old.marked.items }
-        ensures search { OnOk result (IsSearch net.now (is_set needed.now) (slice_index flow.now) self.new.entries.items self.new.marked.items) }
-        ensures grows { OnOk result (Grows self.old.entries.items self.old.marked.items self.new.entries.items self.new.marked.items) }
+        requires at { MayVisit net.now flow.now needed.now self.old k }
+        ensures kept { OnOk result (KeepsSearch net.now flow.now needed.now self.old self.new) }
         ensures visited { OnOk result (IsVisited net.now (is_set needed.now) (slice_index flow.now) self.new.marked.items (entry_at self.old.entries.items k).vertex) }
     {
         self.follow_leaving(net, flow, needed, k)?;

@@ -9,15 +9,15 @@ overflow_add-flow c =
     let g = c.args.net.now in
     let e = c.in-Some.e in
     let into = rw c.in-Some.is at c.edge_back.ensures in
-    let more = subst (λ v. depth g (tail g e) < depth g v) into.1 (depth-rises g c.requires.net e into.0) in
-    omega (arith, more, depth-le g c.args.v, c.loop-e.invariant.few e, c.requires.small e)
+    let more = subst (λ v. depth g (tail g e) < depth g v) into.1 (depth-rises g c.requires.room.net e into.0) in
+    omega (arith, more, depth-le g c.args.v, c.loop-e.invariant.few e, c.requires.room.small e)
 
 pub loop-e-smaller : goal.loop-e-smaller
 loop-e-smaller c =
     let g = c.args.net.now in
     let e = c.in-Some.e in
     let into = rw c.in-Some.is at c.edge_back.ensures in
-    let more = subst (λ v. depth g (tail g e) < depth g v) into.1 (depth-rises g c.requires.net e into.0) in
+    let more = subst (λ v. depth g (tail g e) < depth g v) into.1 (depth-rises g c.requires.room.net e into.0) in
     let less : depth g c.tail-at.result < depth g c.loop-e.at = subst (λ v. depth g v < depth g c.loop-e.at) (sym c.tail-at.ensures.tail) more in
     less
 
@@ -29,7 +29,7 @@ loop-e-preserved c =
     let into = rw c.in-Some.is at c.edge_back.ensures in
     let new = slice_set flow e (slice_index flow e + 1) in
     subst (Brings g (slice_index c.args.flow.now) (slice_index new) c.args.v) (sym c.tail-at.ensures.tail)
-    (Brings-more g c.requires.net (slice_index c.args.flow.now) (slice_index flow) (slice_index new) c.args.v c.loop-e.at e into.0 into.1 c.loop-e.invariant (IsRaised-set flow e (omega arith)))
+    (Brings-more g c.requires.room.net (slice_index c.args.flow.now) (slice_index flow) (slice_index new) c.args.v c.loop-e.at e into.0 into.1 c.loop-e.invariant (IsRaised-set flow e (omega arith)))
 
 pub returns-clause-more : goal.returns-clause-more
 returns-clause-more c = Brings-few c.args.net.now (slice_index c.args.flow.now) (slice_index c.loop-e.flow) c.args.v c.loop-e.at c.loop-e.invariant

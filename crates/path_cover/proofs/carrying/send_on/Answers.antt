@@ -10,13 +10,13 @@ deeper : (c : In-Some) → depth c.args.net.now c.loop-e.at < depth c.args.net.n
 deeper c =
     let g = c.args.net.now in
     let out = rw c.in-Some.is at c.edge_onward.ensures in
-    subst (λ v. depth g v < depth g (head g c.in-Some.e)) out.1 (depth-rises g c.requires.net c.in-Some.e out.0)
+    subst (λ v. depth g v < depth g (head g c.in-Some.e)) out.1 (depth-rises g c.requires.room.net c.in-Some.e out.0)
 
 pub overflow_add-flow : goal.overflow_add-flow
 overflow_add-flow c =
     let g = c.args.net.now in
     let more = deeper (goal.at.overflow_add-flow c).In-Some in
-    omega (arith, more, depth-le g (head g c.in-Some.e), c.loop-e.invariant.few c.in-Some.e, c.requires.small c.in-Some.e)
+    omega (arith, more, depth-le g (head g c.in-Some.e), c.loop-e.invariant.few c.in-Some.e, c.requires.room.small c.in-Some.e)
 
 pub loop-e-smaller : goal.loop-e-smaller
 loop-e-smaller c =
@@ -33,7 +33,7 @@ loop-e-preserved c =
     let out = rw c.in-Some.is at c.edge_onward.ensures in
     let new = slice_set flow e (slice_index flow e + 1) in
     subst (Sends g (slice_index c.args.flow.now) (slice_index new) c.args.v) (sym c.head-at.ensures.head)
-    (Sends-more g c.requires.net (slice_index c.args.flow.now) (slice_index flow) (slice_index new) c.args.v c.loop-e.at e out.0 out.1 c.loop-e.invariant (IsRaised-set flow e (omega arith)))
+    (Sends-more g c.requires.room.net (slice_index c.args.flow.now) (slice_index flow) (slice_index new) c.args.v c.loop-e.at e out.0 out.1 c.loop-e.invariant (IsRaised-set flow e (omega arith)))
 
 pub returns-clause-more : goal.returns-clause-more
 returns-clause-more c = Sends-few c.args.net.now (slice_index c.args.flow.now) (slice_index c.loop-e.flow) c.args.v c.loop-e.at c.loop-e.invariant

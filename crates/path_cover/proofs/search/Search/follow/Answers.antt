@@ -11,14 +11,14 @@ against : (c : After-enter) → Enters c.args.self.now.entries.items c.args.self
     → IsEntered c.args.net.now (is_set c.args.needed.now) (slice_index c.args.flow.now) c.args.self.now.entries.items c.args.self.now.marked.items (record { vertex = c.tail.result; way = Some (c.args.e, c.args.k) }) c.enter.new.self.entries.items c.enter.new.self.marked.items
 against c enters =
     let entries = c.args.self.now.entries.items in
-    let within : c.args.k < length entries = omega (arith, c.requires.place, c.args.self.now.entries.ok.0) in
+    let within : c.args.k < length entries = omega (arith, c.requires.at.place, c.args.self.now.entries.ok.0) in
     let read = entry-read entries c.args.k c.index.result.now within c.index.ensures in
     IsEntered-from c.args.net.now (is_set c.args.needed.now) (slice_index c.args.flow.now) c.args.self.now.entries.items c.args.self.now.marked.items (record { vertex = c.tail.result; way = Some (c.args.e, c.args.k) }) c.enter.new.self.entries.items c.enter.new.self.marked.items
-    c.requires.search c.tail.ensures.vertex
+    c.requires.at.search c.tail.ensures.vertex
     (record {
       edge = c.requires.edge;
-      earlier = omega (arith, c.requires.place, c.args.self.now.entries.ok.0);
-      goes_on = c.requires.goes_on;
+      earlier = omega (arith, c.requires.at.place, c.args.self.now.entries.ok.0);
+      goes_on = c.requires.at.goes_on;
       step = inr (sym c.head.ensures.head ∙ c.if-head-index.true ∙ read, sym c.tail.ensures.tail);
     })
     enters
@@ -27,32 +27,24 @@ along : (c : After-enter-then-can_spare) → Enters c.args.self.now.entries.item
     → IsEntered c.args.net.now (is_set c.args.needed.now) (slice_index c.args.flow.now) c.args.self.now.entries.items c.args.self.now.marked.items (record { vertex = c.head-then-can_spare.result; way = Some (c.args.e, c.args.k) }) c.enter-then-can_spare.new.self.entries.items c.enter-then-can_spare.new.self.marked.items
 along c enters =
     let entries = c.args.self.now.entries.items in
-    let within : c.args.k < length entries = omega (arith, c.requires.place, c.args.self.now.entries.ok.0) in
+    let within : c.args.k < length entries = omega (arith, c.requires.at.place, c.args.self.now.entries.ok.0) in
     let read = entry-read entries c.args.k c.index.result.now within c.index.ensures in
     let leaves : tail c.args.net.now c.args.e ≡ (entry_at c.args.self.now.entries.items c.args.k).vertex
     = elim c.requires.end [ inl at ↦ at | inr at ↦ absurd (c.if-head-index.false (c.head.ensures.head ∙ at ∙ sym read)) ] in
     IsEntered-from c.args.net.now (is_set c.args.needed.now) (slice_index c.args.flow.now) c.args.self.now.entries.items c.args.self.now.marked.items (record { vertex = c.head-then-can_spare.result; way = Some (c.args.e, c.args.k) }) c.enter-then-can_spare.new.self.entries.items c.enter-then-can_spare.new.self.marked.items
-    c.requires.search c.head-then-can_spare.ensures.vertex
+    c.requires.at.search c.head-then-can_spare.ensures.vertex
     (record {
       edge = c.requires.edge;
-      earlier = omega (arith, c.requires.place, c.args.self.now.entries.ok.0);
-      goes_on = c.requires.goes_on;
+      earlier = omega (arith, c.requires.at.place, c.args.self.now.entries.ok.0);
+      goes_on = c.requires.at.goes_on;
       step = inl (leaves, sym c.head-then-can_spare.ensures.head, c.can_spare.ensures.0 c.if-can_spare.true);
     })
     enters
 
-pub returns-then-head-index-clause-search : goal.returns-then-head-index-clause-search
-returns-then-head-index-clause-search c =
-    on_ok_weaker c.enter.result (λ enters. (against (goal.at.returns-then-head-index-clause-search c).After-enter enters).search) c.enter.ensures
+pub returns-then-head-index-clause-kept : goal.returns-then-head-index-clause-kept
+returns-then-head-index-clause-kept c =
+    on_ok_weaker c.enter.result (λ enters. let is = against (goal.at.returns-then-head-index-clause-kept c).After-enter enters in record { search = is.search; grows = is.grows }) c.enter.ensures
 
-pub returns-then-head-index-clause-grows : goal.returns-then-head-index-clause-grows
-returns-then-head-index-clause-grows c =
-    on_ok_weaker c.enter.result (λ enters. (against (goal.at.returns-then-head-index-clause-grows c).After-enter enters).grows) c.enter.ensures
-
-pub returns-then-can_spare-clause-search : goal.returns-then-can_spare-clause-search
-returns-then-can_spare-clause-search c =
-    on_ok_weaker c.enter-then-can_spare.result (λ enters. (along (goal.at.returns-then-can_spare-clause-search c).After-enter-then-can_spare enters).search) c.enter-then-can_spare.ensures
-
-pub returns-then-can_spare-clause-grows : goal.returns-then-can_spare-clause-grows
-returns-then-can_spare-clause-grows c =
-    on_ok_weaker c.enter-then-can_spare.result (λ enters. (along (goal.at.returns-then-can_spare-clause-grows c).After-enter-then-can_spare enters).grows) c.enter-then-can_spare.ensures
+pub returns-then-can_spare-clause-kept : goal.returns-then-can_spare-clause-kept
+returns-then-can_spare-clause-kept c =
+    on_ok_weaker c.enter-then-can_spare.result (λ enters. let is = along (goal.at.returns-then-can_spare-clause-kept c).After-enter-then-can_spare enters in record { search = is.search; grows = is.grows }) c.enter-then-can_spare.ensures

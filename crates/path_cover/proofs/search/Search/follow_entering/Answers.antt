@@ -15,12 +15,12 @@ pub loop-into-init : goal.loop-into-init
 loop-into-init c =
     let g = c.args.net.now in
     let old = c.args.self.now in
-    let within : c.args.k < length old.entries.items = omega (arith, c.requires.place, old.entries.ok.0) in
+    let within : c.args.k < length old.entries.items = omega (arith, c.requires.at.place, old.entries.ok.0) in
     let read = entry-read old.entries.items c.args.k c.index.result.now within c.index.ensures in
     let v = c.index.result.now.vertex in
-    let there : v < g.vertices = omega (arith, read, vertex-below g (is_set c.args.needed.now) (slice_index c.args.flow.now) old.entries.items old.marked.items c.args.k c.requires.search within) in
+    let there : v < g.vertices = omega (arith, read, vertex-below g (is_set c.args.needed.now) (slice_index c.args.flow.now) old.entries.items old.marked.items c.args.k c.requires.at.search within) in
     let first = rw (← get_or_read c.args.entering.now.first.items v c.index-into.result.now (omega (arith, there, c.requires.entering.vertices_count)) c.index-into.ensures None) at (c.requires.entering.firsts v there) in
-    Follows-start g (is_set c.args.needed.now) (slice_index c.args.flow.now) (head g) (entry_at old.entries.items c.args.k).vertex old.entries.items old.marked.items c.index-into.result.now c.requires.search
+    Follows-start g (is_set c.args.needed.now) (slice_index c.args.flow.now) (head g) (entry_at old.entries.items c.args.k).vertex old.entries.items old.marked.items c.index-into.result.now c.requires.at.search
     (subst (λ u. IsFirstInto g u 0 c.index-into.result.now) read first)
 
 -- the next edge that enters the vertex
@@ -49,8 +49,8 @@ loop-into-preserved c =
     let v = (entry_at old.entries.items c.args.k).vertex in
     let e = c.in-Some.e in
     let f = rw c.in-Some.is at c.loop-into.invariant in
-    let within : c.args.k < length old.entries.items = omega (arith, c.requires.place, old.entries.ok.0) in
+    let within : c.args.k < length old.entries.items = omega (arith, c.requires.at.place, old.entries.ok.0) in
     let same = f.grows.same c.args.k within in
     let here = subst (λ (x : Reached). IsFollowed g needed flow c.follow.new.self.marked.items x.vertex e) same c.in_ok-follow.ensures.followed in
     Follows-more g needed flow (head g) v old.entries.items old.marked.items c.loop-into.self.entries.items c.loop-into.self.marked.items e c.follow.new.self.entries.items c.follow.new.self.marked.items c.index-into-in-Some.result.now
-    f c.in_ok-follow.ensures.search c.in_ok-follow.ensures.grows here (next (goal.at.loop-into-preserved c).After-index-into-in-Some)
+    f c.in_ok-follow.ensures.kept.search c.in_ok-follow.ensures.kept.grows here (next (goal.at.loop-into-preserved c).After-index-into-in-Some)

@@ -21,4 +21,4 @@ loop-out-preserved c =
     let here = subst (λ (x : Reached). IsFollowed g needed flow c.follow.new.self.marked.items x.vertex e) same c.in_ok-follow.ensures.followed in
     let next = subst (λ u. IsFirstOut g u (e + 1) c.next_out-out.result) f.done.1 c.next_out-out.ensures in
     Follows-more g needed flow (tail g) v old.entries.items old.marked.items c.loop-out.self.entries.items c.loop-out.self.marked.items e c.follow.new.self.entries.items c.follow.new.self.marked.items c.next_out-out.result
-    f c.in_ok-follow.ensures.search c.in_ok-follow.ensures.grows here next
+    f c.in_ok-follow.ensures.kept.search c.in_ok-follow.ensures.kept.grows here next

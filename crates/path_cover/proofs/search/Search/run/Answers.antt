@@ -31,7 +31,7 @@ loop-k-preserved c =
     let within : c.loop-k.k < length old.entries.items = omega (arith, c.loop-k-test.true, c.len.ensures, old.entries.ok.0) in
     let no_sink = subst (λ v. is_sink g v ≡ false) (vertex_is (goal.at.loop-k-preserved c).After-index) (sym c.is_sink.ensures ∙ c.if-is_sink.false) in
     Runs-more g (is_set c.args.needed.now) (slice_index c.args.flow.now) old.entries.items old.marked.items c.visit.new.self.entries.items c.visit.new.self.marked.items c.loop-k.k c.loop-k.invariant within no_sink
-    c.in_ok-visit.ensures.search c.in_ok-visit.ensures.grows c.in_ok-visit.ensures.visited
+    c.in_ok-visit.ensures.kept.search c.in_ok-visit.ensures.kept.grows c.in_ok-visit.ensures.visited
 
 pub returns-clause-ends : goal.returns-clause-ends
 returns-clause-ends c =
