@@ -89,15 +89,15 @@ def complete(draw, size):
 
 
 def diamonds(draw, size):
-    """An edge made into a diamond, and each of its edges again, as often as the size allows."""
+    """Nested ones: an edge is made into a diamond, and each of its edges again, as often as the size allows."""
     edges = [("s", "t", MOST)]
     while 4 * len(edges) <= size:
         inner = []
         for u, v, weight in edges:
             part = draw.randrange(weight // 4, weight * 3 // 4) if weight > 1 else 0
-            for side, share in ((f"{u}{len(inner)}", part), (f"{v}{len(inner)}", weight - part)):
-                name = f"m{len(edges)}_{len(inner)}_{side[0]}"
-                inner += [(u, name, share), (name, v, share)]
+            for share in (part, weight - part):
+                middle = f"m{len(edges)}_{len(inner)}"
+                inner += [(u, middle, share), (middle, v, share)]
         edges = inner
     return edges
 
@@ -130,8 +130,9 @@ def shapes(draw):
 
 def contradiction(edges):
     """Ranges of which the last is above all that can come to it."""
-    ends = {v for _, v, _ in edges} - {u for u, _, _ in edges}
-    return [(u, v, 0, 1000) for u, v, _ in edges[:-1]] + [(next(v for _, v, _ in edges if v in ends), "behind", MOST, MOST)]
+    first = edges[:-1]
+    tails = {u for u, _, _ in first}
+    return [(u, v, 0, 1000) for u, v, _ in first] + [(next(v for _, v, _ in first if v not in tails), "behind", MOST, MOST)]
 
 
 def cycle(edges):
