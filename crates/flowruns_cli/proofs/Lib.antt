@@ -1,0 +1,5 @@
+mod Weights
+mod Loads
+mod RunLines
+mod RunTexts
+mod Texts

@@ -1,0 +1,4 @@
+pub mod RunText
+pub mod RightTexts
+pub mod Run
+pub mod Weighing
