@@ -1,5 +1,5 @@
 -- The latest link of a slot or an edge, after a link more and after a link less.
-use Rattle.std.proofs.Common.{◌⊎◌, true≢false, ◌≡◌, ◌≢◌, ℕ, zero, suc, ◌+◌, ◌<◌, ◌≤◌, Bool, true, false, ◌==◌, List, [], ◌∷◌, ◌++◌, map, length, get_or, set, take, Option, None, Some, refl, sym, ap, ap₂, ◌∙◌, subst, arith, inl, inr, eq-eqb, ne_eqb, eqb-true, length-append, length-set}
+use Rattle.std.proofs.Common.{◌⊎◌, true≢false, ◌≡◌, ◌≢◌, ℕ, zero, suc, ◌+◌, ◌<◌, ◌≤◌, Bool, true, false, ◌==◌, List, [], ◌∷◌, ◌++◌, map, length, get_or, slice_index, set, take, Option, None, Some, refl, sym, ap, ap₂, ◌∙◌, subst, arith, inl, inr, eq-eqb, ne_eqb, eqb-true, length-append, length-set}
 use Rattle.std.specs.Prelude.{MatchOption, filter, All}
 use Rattle.std.proofs.lemmas.Bool.{cases_Bool, cases_lt}
 use Rattle.std.proofs.lemmas.List.{get_or_append_left, get_or_push, get_or-set_same, get_or-set_other, get_or_read, get_or-map, length-map, map-append, take_more, take_all, append-nil}
@@ -21,6 +21,26 @@ latest_inside t (suc n) p is =
     elim (cases_Bool (t n)) [
       | inl passes ↦ let now : Some n ≡ Some p = rw passes at is in let same : n ≡ p = cc in omega (arith, same)
       | inr fails ↦ let now : latest t n ≡ Some p = rw fails at is in omega (arith, latest_inside t n p now)
+    ]
+
+-- the latest that passes does pass, and none that passes is later
+pub latest_passes : (t : ℕ → Bool) (n p : ℕ) → latest t n ≡ Some p → t p ≡ true
+latest_passes t zero p is = absurd (let no' : ⊥ = cc in no')
+latest_passes t (suc n) p is =
+    elim (cases_Bool (t n)) [
+      | inl passes ↦ let now : Some n ≡ Some p = rw passes at is in let same : n ≡ p = cc in subst (λ q. t q ≡ true) same passes
+      | inr fails ↦ let now : latest t n ≡ Some p = rw fails at is in latest_passes t n p now
+    ]
+
+pub latest_after : (t : ℕ → Bool) (n q : ℕ) → q < n → t q ≡ true → (p : ℕ) × (latest t n ≡ Some p) × (q ≤ p)
+latest_after t zero q inside passes = absurd (omega arith)
+latest_after t (suc n) q inside passes =
+    elim (cases_Bool (t n)) [
+      | inl last ↦ (n, rw last refl, omega arith)
+      | inr fails ↦
+          let other : q ≢ n = λ same. true≢false (sym passes ∙ ap t same ∙ fails) in
+          let found = latest_after t n q (omega (arith, inside, other)) passes in
+          (found.0, rw fails found.1, found.2)
     ]
 
 pub by-append : (f : ℕ × ℕ → ℕ) (links more : List (ℕ × ℕ)) (k n : ℕ) → n ≤ length links → latest_by f (links ++ more) k n ≡ latest_by f links k n
@@ -126,6 +146,35 @@ walk_of-push_other links x k other =
   where
     one : (x.0 == k) ≡ false → walk_of (x ∷ []) k ≡ []
     one fails = rw fails refl
+
+walk_of-first_same : (x : ℕ × ℕ) (links : List (ℕ × ℕ)) (k : ℕ) → (x.0 == k) ≡ true → walk_of (x ∷ links) k ≡ x.1 ∷ walk_of links k
+walk_of-first_same x links k same = rw same refl
+
+walk_of-first_other : (x : ℕ × ℕ) (links : List (ℕ × ℕ)) (k : ℕ) → (x.0 == k) ≡ false → walk_of (x ∷ links) k ≡ walk_of links k
+walk_of-first_other x links k other = rw other refl
+
+-- each edge of the walk of a slot is linked to the slot
+pub link_at : (links : List (ℕ × ℕ)) (k j : ℕ) → j < length (walk_of links k) → (p : ℕ) × (p < length links) × (slot_in links p ≡ k) × (edge_in links p ≡ slice_index (walk_of links k) j)
+link_at [] k j inside = absurd (omega arith)
+link_at (x ∷ links) k zero inside =
+    elim (cases_Bool (x.0 == k)) [
+      | inl same ↦ (0, omega arith, eqb-true x.0 k same, sym (ap (λ w. slice_index w 0) (walk_of-first_same x links k same)))
+      | inr other ↦
+          let is = walk_of-first_other x links k other in
+          let next = link_at links k zero (omega (arith, inside, ap length is)) in
+          (suc next.0, omega (arith, next.1), next.2, next.3 ∙ sym (ap (λ w. slice_index w 0) is))
+    ]
+link_at (x ∷ links) k (suc j) inside =
+    elim (cases_Bool (x.0 == k)) [
+      | inl same ↦
+          let is = walk_of-first_same x links k same in
+          let next = link_at links k j (omega (arith, inside, ap length is)) in
+          (suc next.0, omega (arith, next.1), next.2, next.3 ∙ sym (ap (λ w. slice_index w (suc j)) is))
+      | inr other ↦
+          let is = walk_of-first_other x links k other in
+          let next = link_at links k (suc j) (omega (arith, inside, ap length is)) in
+          (suc next.0, omega (arith, next.1), next.2, next.3 ∙ sym (ap (λ w. slice_index w (suc j)) is))
+    ]
 
 -- where the walk of the first n links ends
 abbrev pub EndsAt : List (ℕ × ℕ) → ℕ → ℕ → Option ℕ → Type 0

@@ -1,13 +1,13 @@
 -- The bounds of the slots of a box, and the rules that it misses.
-use Rattle.std.proofs.Common.{◌≡◌, ℕ, zero, suc, ◌+◌, ◌<◌, ◌≤◌, true, false, not, ◌&&◌, nat_le, cond, List, [], ◌∷◌, ◌++◌, length, get_or, vec_len, add-one, refl, sym, ap, ap₂, ◌∙◌, arith, inl, inr, le-leb, subst}
-use Rattle.std.proofs.lemmas.Bool.{cases_eq, and_from, and_right}
+use Rattle.std.proofs.Common.{◌≡◌, ℕ, zero, suc, ◌+◌, ◌<◌, ◌≤◌, true, false, not, ◌&&◌, nat_le, cond, List, [], ◌∷◌, ◌++◌, length, get_or, vec_len, refl, sym, ap, ap₂, ◌∙◌, arith, inl, inr, le-leb, subst}
+use Rattle.std.proofs.lemmas.Bool.{cases_eq, and_from, and_left, and_right}
 use Rattle.std.proofs.lemmas.List.{get_or_read, append-nil}
 use Rattle.decomposition.specs.Boxes.{Slot, slot_at, upper_at, lower_at, may_contain, misses_over}
 use Rattle.decomposition.specs.Held.{box_paths}
 use Rattle.refute_tree.specs.Sums.{AreBounds}
 use Rattle.refute_tree.specs.declared.sums.Weights.{Weights}
 
--- a slot that may contain a run, and a slot that may not
+-- a slot that may contain a run, and no slot that may
 pub misses-some : (all : List (List ℕ)) (b : List Slot) (r : List ℕ) (k n : ℕ) → k < n → 1 ≤ upper_at b k → may_contain all (slot_at b k).walk r ≡ true → misses_over all b r n ≡ false
 misses-some all b r k zero inside one may = absurd (omega arith)
 misses-some all b r k (suc n) inside one may =
@@ -19,9 +19,16 @@ misses-some all b r k (suc n) inside one may =
       | inr other ↦ and_right (not (nat_le 1 (upper_at b n) && may_contain all (slot_at b n).walk r)) (misses_over all b r n) (misses-some all b r k n (omega arith) one may)
     ]
 
-pub misses-more : (all : List (List ℕ)) (b : List Slot) (r : List ℕ) (k : ℕ) → misses_over all b r k ≡ true → (nat_le 1 (upper_at b k) && may_contain all (slot_at b k).walk r) ≡ false
-    → misses_over all b r (k + 1) ≡ true
-misses-more all b r k before none = rw (add-one) (and_from (not (nat_le 1 (upper_at b k) && may_contain all (slot_at b k).walk r)) (misses_over all b r k) (ap not none) before)
+pub misses-none : (all : List (List ℕ)) (b : List Slot) (r : List ℕ) (n : ℕ) → ((k : ℕ) → k < n → 1 ≤ upper_at b k → may_contain all (slot_at b k).walk r ≡ false) → misses_over all b r n ≡ true
+misses-none all b r zero none = refl
+misses-none all b r (suc n) none =
+    and_from (not (nat_le 1 (upper_at b n) && may_contain all (slot_at b n).walk r)) (misses_over all b r n) (ap not last) (misses-none all b r n (λ k inside. none k (omega (arith, inside))))
+  where
+    last : (nat_le 1 (upper_at b n) && may_contain all (slot_at b n).walk r) ≡ false
+    last = elim (cases_eq (upper_at b n) 0) [
+      | inl zero' ↦ and_left (nat_le 1 (upper_at b n)) (may_contain all (slot_at b n).walk r) (ap (nat_le 1) zero')
+      | inr some ↦ and_right (nat_le 1 (upper_at b n)) (may_contain all (slot_at b n).walk r) (none n (omega arith) (omega (arith, some)))
+    ]
 
 -- a bound that is read is that of the slot
 pub upper-read : (b : List Slot) (sums : Weights) (k u : ℕ) → length b ≡ vec_len sums.uppers → AreBounds b sums → k < length b → u ≡ get_or sums.uppers.items k u → upper_at b k ≡ u

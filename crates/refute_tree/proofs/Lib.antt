@@ -14,6 +14,7 @@ pub mod Overlapping
 pub mod ClosingTokens
 pub mod Opening
 pub mod FirstBoxes
+pub mod Missing
 pub mod Fronts
 pub mod Applied
 pub mod Applying

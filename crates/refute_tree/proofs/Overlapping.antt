@@ -1,17 +1,16 @@
 -- Whether a walk that is known by its tail may contain a run.
-use Rattle.std.proofs.Common.{◌⊎◌, ◌≡◌, ◌≢◌, ◌↔◌, ℕ, zero, suc, ◌+◌, ◌-◌, ◌<◌, ◌≤◌, ◌&&◌, ◌==◌, eqb, Bool, true, false, List, [], ◌∷◌, ◌++◌, length, take, drop, drop-cons, get_or, slice_index, add-one, IsTrue, true≢false, eqb-true, eq-eqb, refl, sym, ap, subst, ◌∙◌, arith, inl, inr, append_assoc}
+use Rattle.std.proofs.Common.{◌≡◌, ◌≢◌, ◌↔◌, ℕ, zero, suc, ◌+◌, ◌-◌, ◌<◌, ◌≤◌, ◌&&◌, ◌==◌, eqb, Bool, true, false, List, [], ◌∷◌, ◌++◌, length, take, drop, drop-cons, get_or, slice_index, add-one, IsTrue, true≢false, eqb-true, eq-eqb, refl, sym, ap, subst, ◌∙◌, arith, inl, inr, append_assoc}
 use Rattle.std.specs.List.{IsDistinct}
 use Rattle.std.proofs.Math.Seq.{drop-append_seam, take-append_seam}
 use Rattle.std.proofs.lemmas.Bool.{cases_Bool, cases_lt, and_parts, and_from, and_left, and_right, both_ways}
 use Rattle.std.proofs.lemmas.List.{take-append-drop, drop_all, length_push}
 use Rattle.std.proofs.lemmas.Map.Keys.{apart_from_distinct}
-use Rattle.decomposition.specs.Graph.{Graph, IsNet, edge_count, tail, head, walk_end, IsRun, paths}
-use Rattle.decomposition.specs.Boxes.{may_contain}
+use Rattle.decomposition.specs.Graph.{Graph, IsNet, edge_count, tail, head, walk_end, IsRun}
 use Rattle.decomposition.proofs.Walks.{walk-cons, walk-right, walk_end-append, walk-distinct, walk-length}
 use Rattle.decomposition.specs.Reach.{IsBegun, Reaches}
 use Rattle.subpath_rules.specs.Follows.{agree, Overlaps, run_start, run_end}
-use Rattle.subpath_rules.proofs.Deciding.{run_start-first, may-decides}
-use Rattle.refute_tree.specs.Misses.{IsLengthFrom, IsNowhere}
+use Rattle.subpath_rules.proofs.Deciding.{run_start-first}
+use Rattle.refute_tree.specs.Misses.{LeadsTo, IsLengthFrom, IsNowhere}
 
 -- a list whose beginning ends with an entry
 pub whole_from_take : (walk xs : List ℕ) (e n : ℕ) → xs ++ e ∷ [] ≡ take n walk → walk ≡ xs ++ (e ∷ drop n walk)
@@ -122,17 +121,16 @@ pub begun-once : (g : Graph) (walk : List ℕ) → IsNet g → IsBegun g walk �
 begun-once g [] net begun = (walk-distinct g net 0 [] refl, omega arith)
 begun-once g (e ∷ es) net begun = (walk-distinct g net (tail g e) (e ∷ es) begun.1, walk-length g net (tail g e) (e ∷ es) begun.1)
 
--- what is found of where the walk's end leads to, and of where the run overlaps it
-pub may-ahead : (g : Graph) (walk before run : List ℕ) (e u v : ℕ) → IsNet g → IsBegun g walk → IsRun g run → walk ≡ before ++ e ∷ [] → u ≡ head g e → v ≡ tail g (slice_index run 0) → (b : Bool)
-    → (IsTrue b ↔ (Overlaps walk run ⊎ Reaches g u v)) → b ≡ may_contain (paths g) walk run
-may-ahead g walk before run e u v net begun is_run is from to b found =
+-- a walk that is not empty leads to a run where the vertex that it ends at reaches the one where the run begins
+pub leads-last : (g : Graph) (walk before run : List ℕ) (e u v : ℕ) → IsBegun g walk → IsRun g run → walk ≡ before ++ e ∷ [] → u ≡ head g e → v ≡ tail g (slice_index run 0) → (b : Bool)
+    → (IsTrue b ↔ Reaches g u v) → IsTrue b ↔ LeadsTo g walk run
+leads-last g walk before run e u v begun is_run is from to b found =
     let end : u ≡ run_end g walk = from ∙ sym (subst (λ w. run_end g w ≡ head g e) (sym is) (begun-last g before e (subst (λ w. IsBegun g w) is begun)).1) in
-    let start : v ≡ run_start g run = to ∙ sym (run_start-first g run is_run) in
-    may-decides b g walk run net begun is_run (λ empty. not_empty before (sym is ∙ empty)) (
-      λ t. elim (found.0 t) [ inl over ↦ inl over | inr way ↦ inr (subst (λ y. Reaches g (run_end g walk) y) start (subst (λ x. Reaches g x v) end way)) ],
-      λ follows. elim follows [
-        | inl over ↦ found.1 (inl over)
-        | inr way ↦ found.1 (inr (subst (λ x. Reaches g x v) (sym end) (subst (λ y. Reaches g (run_end g walk) y) (sym start) way)))
+    let start : v ≡ run_start g run = to ∙ sym (run_start-first g run is_run) in (
+      λ t. inr (subst (λ y. Reaches g (run_end g walk) y) start (subst (λ x. Reaches g x v) end (found.0 t))),
+      λ leads. elim leads [
+        | inl empty ↦ absurd (not_empty before (sym is ∙ empty))
+        | inr way ↦ found.1 (subst (λ x. Reaches g x v) (sym end) (subst (λ y. Reaches g (run_end g walk) y) (sym start) way))
       ],
     )
   where

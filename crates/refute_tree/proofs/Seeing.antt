@@ -1,17 +1,17 @@
 -- What is known of walks that end with the first edges of a rule, after a link more and after a link less.
-use Rattle.std.proofs.Common.{◌≡◌, ℕ, zero, suc, ◌+◌, ◌-◌, ◌<◌, ◌≤◌, ◌==◌, true, false, List, [], ◌∷◌, ◌++◌, map, length, get_or, slice_index, take, drop, Option, Some, None, refl, sym, ap, ap₂, ◌∙◌, subst, arith, inl, eq-eqb, append_assoc, length-append}
+use Rattle.std.proofs.Common.{◌≡◌, ℕ, zero, suc, ◌+◌, ◌-◌, ◌<◌, ◌≤◌, ◌==◌, true, false, List, [], ◌∷◌, ◌++◌, map, length, get_or, slice_index, take, drop, Option, Some, None, refl, sym, ap, ap₂, ◌∙◌, subst, arith, inr, eq-eqb, append_assoc, length-append}
 use Rattle.std.specs.Prelude.{filter, IfSome, IsTrue}
 use Rattle.std.specs.List.{list_all}
 use Rattle.std.proofs.Math.Seq.{drop-append_seam, take-append_seam}
 use Rattle.std.proofs.lemmas.Bool.{and_from}
 use Rattle.std.proofs.lemmas.List.{take_all, take-take, take_more, take-append-drop, get_or-take, length-take-le, map-append, append-nil}
 use Rattle.std.proofs.lemmas.List.Elements.{filter-append}
-use Rattle.decomposition.specs.Graph.{Graph, is_run, paths}
-use Rattle.decomposition.specs.Boxes.{may_contain, misses}
+use Rattle.decomposition.specs.Graph.{Graph, is_run}
+use Rattle.decomposition.specs.Boxes.{misses}
 use Rattle.flow_models.specs.Problem.{instance}
 use Rattle.flow_models.specs.declared.problem.Problem.{Problem}
 use Rattle.subpath_rules.specs.Follows.{agree, Overlaps}
-use Rattle.subpath_rules.proofs.Deciding.{may-decides, rule-run}
+use Rattle.subpath_rules.proofs.Deciding.{rule-run}
 use Rattle.link_cells.specs.Links.{slot_in, edge_in, latest_of, walk_of, walk_to}
 use Rattle.link_cells.proofs.Linking.{to_before}
 use Rattle.refute_tree.specs.OneBox.{place_of, IsOneBox}
@@ -20,9 +20,7 @@ use Rattle.refute_tree.specs.declared.beside.Beside.{Beside}
 use Rattle.refute_tree.specs.declared.ends.Known.{Known}
 use Rattle.refute_tree.specs.declared.ends.Seen.{Seen}
 use Rattle.refute_tree.specs.declared.one_box.OneBox.{OneBox}
-use Rattle.refute_tree.proofs.FirstBoxes.{misses-some}
-use Rattle.refute_tree.proofs.Placing.{slots_from-length, walk_at}
-use Rattle.refute_tree.proofs.Taking.{walk_begun}
+use Rattle.refute_tree.proofs.Missing.{IsAsked, not-missed}
 
 -- the walk up to a link is told by the links up to it
 walk_to-take : (links : List (ℕ × ℕ)) (n p : ℕ) → p < n → walk_to (take n links) (Some p) ≡ walk_to links (Some p)
@@ -134,14 +132,6 @@ pub record AreSetBack (rules : List (List ℕ)) (links : List (ℕ × ℕ)) (pla
 pub misses-known : (g : Graph) (p : Problem) (a : OneBox) (kept : Beside) (rule : ℕ) → IsTrue (list_all (is_run g) p.rules) → rule < length p.rules → IsOneBox g a → IsSummedUp (instance g p) a kept
     → IsOnWay kept.sums.uppers.items a.links (get_or p.rules rule []) → misses (instance g p) (place_of a).box rule ≡ false
 misses-known g p a kept rule rules is_rule one beside way =
-    let links = a.links.links in
-    let walk : List ℕ = walk_of links way.slot in
     let run : List ℕ = get_or p.rules rule [] in
-    let b = (place_of a).box in
-    let over : Overlaps walk run = way.overlaps in
-    let inside : way.slot < length a.ranges.items = omega (arith, way.inside, one.slots) in
-    let in_box : way.slot < length b = omega (arith, inside, slots_from-length 0 a.ranges.items links) in
-    let some : walk ≡ [] → ⊥ = λ none. omega (arith, over.1, ap length none) in
-    let may : may_contain (paths g) walk run ≡ true
-    = sym (may-decides true g walk run one.net (walk_begun g a way.slot one inside) (rule-run g p.rules rule run rules is_rule refl) some (λ _. inl over, λ _. refl)) in
-    misses-some (paths g) b run way.slot (length b) in_box (omega (arith, way.positive, beside.sums.bounds.uppers way.slot in_box)) (ap (λ w. may_contain (paths g) w run) (walk_at a.ranges.items links way.slot inside) ∙ may)
+    let asked : IsAsked g a kept.sums run = record { box = one; bounds = beside.sums.bounds; is_run = rule-run g p.rules rule run rules is_rule refl } in
+    not-missed g a kept.sums run way.slot asked way.inside way.positive (inr way.overlaps)

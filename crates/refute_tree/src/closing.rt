@@ -12,7 +12,7 @@ ghost use Rattle.refute_tree.specs.OneBox.{place_of, IsOneBox};
 ghost use Rattle.refute_tree.specs.Sums.{SumsUp};
 
 use crate::beside::Beside;
-use crate::misses::may_contain;
+use crate::misses::{is_ahead, is_on_way};
 use crate::one_box::OneBox;
 use crate::sums::Weights;
 use dag_net::Net;
@@ -52,12 +52,7 @@ fn is_missed_by_walks(net: &Net, problem: &Problem, one: &OneBox, sums: &Weights
     ensures { result ≡ misses (instance net.now problem.now) (place_of one.now).box rule }
 {
     let run = problem.rules.run(rule);
-    for k in 0..one.slots() {
-        if sums.uppers[k as usize] >= 1 && may_contain(net, &one.links, k, run) {
-            return false;
-        }
-    }
-    true
+    !is_ahead(net, one, sums, run) && !is_on_way(net, one, sums, run)
 }
 
 /// Whether no slot of the box of a weight that may be positive may contain the rule.
