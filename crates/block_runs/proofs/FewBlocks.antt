@@ -58,10 +58,10 @@ pub may-short : (bytes : List ℕ) → length bytes ≤ 2 ^ 30 → MayBeTaken by
 may-short bytes short = record { short = omega (arith, short); few = omega (arith, short, complete-few bytes) }
 
 -- and a text with few blocks
-pub may-text : (text : List ℕ) → length text < 2 ^ 62 → length (blocks text) < 2 ^ 32 → MayBeTaken text
+pub may-text : (text : List ℕ) → length text < 2 ^ 63 → length (blocks text) < 2 ^ 32 → MayBeTaken text
 may-text text short few =
     let all = blocks-begin text in
-    record { short = omega (arith, short); few = omega (arith, few, ap length all.1, length-append (complete text) all.0) }
+    record { short = short; few = omega (arith, few, ap length all.1, length-append (complete text) all.0) }
 
 -- nothing more may be taken of what may be taken
 pub may-nothing : (bytes : List ℕ) → MayBeTaken bytes → MayBeTaken (bytes ++ [])

@@ -20,7 +20,7 @@ pub fn run_text<W: Worker, O: Output>(
     out: &mut O,
 ) -> Status
     requires begun { W.comes worker.old worker.old [] [] }
-    requires short { length text.now < 2 ^ 62 }
+    requires short { length text.now < 2 ^ 63 }
     requires few { length (blocks text.now) < 2 ^ 32 }
     ensures right { EndsText (IsRightAndMayBeCut W.may_be_cut W.is_right worker.old) (W.is_right worker.old) (W.is_whole worker.old)
         text.now result (O.written out.old) (O.written out.new) }
@@ -37,7 +37,7 @@ fn answer_text<W: Worker, O: Output>(
     out: &mut O,
 ) -> Result<Status, Stop>
     requires begun { W.comes worker.old worker.old [] [] }
-    requires short { length text.now < 2 ^ 62 }
+    requires short { length text.now < 2 ^ 63 }
     requires few { length (blocks text.now) < 2 ^ 32 }
     ensures right { EndsText (IsRightAndMayBeCut W.may_be_cut W.is_right worker.old) (W.is_right worker.old) (W.is_whole worker.old)
         text.now (status_at result) (O.written out.old) (O.written out.new) }

@@ -1,6 +1,7 @@
 //! The reading of a whole input.
 ghost use Rattle.std.specs.Prelude.{◌≡◌, ◌≢◌, ◌<◌, ◌^◌, ◌≤◌, List, ℕ, length, is_some, IfOk, IfErr, IfSome};
 ghost use Rattle.flow_io.specs.Outside.{Rose, Took};
+ghost use Rattle.block_runs.specs.Run.{HasEnded};
 ghost use Rattle.block_runs.specs.Whole.{WhereSeen, TakesFirst, IsAtEnd, IsNoOther, IsStopped, taken};
 
 use crate::piece::{MOST, ROOM, read_piece};
@@ -12,6 +13,7 @@ pub fn read_input<I: Inputs>(alloc: Global, name: &str, inputs: &mut I) -> Resul
     requires { I.may_ask inputs.old name.now }
     ensures short { IfOk result (λ bytes. length bytes.items < 2 ^ 30) }
     ensures whole { IfOk result (λ bytes. WhereSeen (I.holds inputs.old name.now) (I.selected inputs.new) (λ seen. seen.held ≡ bytes.items)) }
+    ensures ended { IfOk result (λ _. WhereSeen (I.holds inputs.old name.now) (I.selected inputs.new) (HasEnded name.now)) }
     ensures first { WhereSeen (I.holds inputs.old name.now) (I.selected inputs.new) (TakesFirst name.now) }
     ensures stopped { IfErr result IsStopped }
     ensures long { result ≡ Err Status.Long → WhereSeen (I.holds inputs.old name.now) (I.selected inputs.new)

@@ -19,6 +19,7 @@ mod words;
 pub use accepted::{right_reports_are_accepted, solved_reports_are_accepted};
 pub use call::flowpaths;
 pub use examples::{words_are_refused, words_are_taken};
+pub use reporting::solve_body;
 pub use seeded::demo;
 pub use settings::Settings;
 pub use solving::solve_block;
