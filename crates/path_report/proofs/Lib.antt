@@ -1,2 +1,2 @@
-pub mod SendingLemmas
+pub mod Putting
 pub mod Lines

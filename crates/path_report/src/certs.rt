@@ -1,10 +1,9 @@
 //! The lines of certificates.
-ghost use Rattle.std.specs.Prelude.{◌<◌, length, flat_map, nat_lt, IsTrue, OnOk, OnErr};
+ghost use Rattle.std.specs.Prelude.{◌<◌, length, flat_map, nat_lt, IsTrue};
 ghost use Rattle.std.specs.List.{list_all};
-ghost use Rattle.flow_io.specs.Outside.{HasCause};
 ghost use Rattle.report_terms.specs.declared.report.Cert.TheVariants.{Wide, Cut, Crowd};
 ghost use Rattle.report_reading.specs.ReportText.{edge_line, vertex_line, rule_line, cert_text, are_edges, are_vertices, is_cert};
-ghost use Rattle.path_report.specs.Sending.{Sends, Stops};
+ghost use Rattle.path_report.specs.Sending.{PutsText};
 
 use crate::digits::Digits;
 use crate::page::Page;
@@ -23,11 +22,7 @@ pub fn put_cert<O: Output>(
     labels: &Labels,
 ) -> Result<(), Fault>
     requires { IsTrue (is_cert labels.now cert.now) }
-    ensures ok { OnOk result (Sends (O.written out.old) (O.written out.new)
-        page.old (cert_text labels.now cert.now) page.new) }
-    ensures err { OnErr result (Stops (O.written out.old) (O.written out.new)
-        page.old (cert_text labels.now cert.now)) }
-    ensures cause { HasCause (O.faults out.old) (O.faults out.new) result }
+    ensures { PutsText (cert_text labels.now cert.now) O.written O.faults out.old out.new page.old page.new result }
 {
     match cert {
         Cert::Zero => page.line(out, b"cert", &[b"none"]),
@@ -46,11 +41,7 @@ fn put_wide<O: Output>(
     labels: &Labels,
 ) -> Result<(), Fault>
     requires { IsTrue (are_edges labels.now edges.now) }
-    ensures ok { OnOk result (Sends (O.written out.old) (O.written out.new)
-        page.old (cert_text labels.now (Wide edges.now)) page.new) }
-    ensures err { OnErr result (Stops (O.written out.old) (O.written out.new)
-        page.old (cert_text labels.now (Wide edges.now))) }
-    ensures cause { HasCause (O.faults out.old) (O.faults out.new) result }
+    ensures { PutsText (cert_text labels.now (Wide edges.now)) O.written O.faults out.old out.new page.old page.new result }
 {
     let count = Digits::of(edges.len() as u64);
     page.line(out, b"cert", &[b"wide", count.as_slice()])?;
@@ -65,11 +56,7 @@ fn put_edges<O: Output>(
     labels: &Labels,
 ) -> Result<(), Fault>
     requires { IsTrue (list_all (λ e. nat_lt e (length labels.now.edges)) edges.now) }
-    ensures ok { OnOk result (Sends (O.written out.old) (O.written out.new)
-        page.old (flat_map (edge_line labels.now) edges.now) page.new) }
-    ensures err { OnErr result (Stops (O.written out.old) (O.written out.new)
-        page.old (flat_map (edge_line labels.now) edges.now)) }
-    ensures cause { HasCause (O.faults out.old) (O.faults out.new) result }
+    ensures { PutsText (flat_map (edge_line labels.now) edges.now) O.written O.faults out.old out.new page.old page.new result }
 {
     for e in edges {
         put_edge(page, out, *e, labels)?;
@@ -80,11 +67,7 @@ fn put_edges<O: Output>(
 /// The line of an edge.
 fn put_edge<O: Output>(page: &mut Page, out: &mut O, e: u32, labels: &Labels) -> Result<(), Fault>
     requires { e < length labels.now.edges }
-    ensures ok { OnOk result (Sends (O.written out.old) (O.written out.new)
-        page.old (edge_line labels.now e) page.new) }
-    ensures err { OnErr result (Stops (O.written out.old) (O.written out.new)
-        page.old (edge_line labels.now e)) }
-    ensures cause { HasCause (O.faults out.old) (O.faults out.new) result }
+    ensures { PutsText (edge_line labels.now e) O.written O.faults out.old out.new page.old page.new result }
 {
     let tail = labels.name(labels.tail(e));
     let head = labels.name(labels.head(e));
@@ -100,11 +83,7 @@ fn put_cut<O: Output>(
     labels: &Labels,
 ) -> Result<(), Fault>
     requires { IsTrue (are_vertices labels.now vertices.now) }
-    ensures ok { OnOk result (Sends (O.written out.old) (O.written out.new)
-        page.old (cert_text labels.now (Cut side vertices.now)) page.new) }
-    ensures err { OnErr result (Stops (O.written out.old) (O.written out.new)
-        page.old (cert_text labels.now (Cut side vertices.now))) }
-    ensures cause { HasCause (O.faults out.old) (O.faults out.new) result }
+    ensures { PutsText (cert_text labels.now (Cut side vertices.now)) O.written O.faults out.old out.new page.old page.new result }
 {
     let count = Digits::of(vertices.len() as u64);
     page.line(
@@ -123,11 +102,7 @@ fn put_vertices<O: Output>(
     labels: &Labels,
 ) -> Result<(), Fault>
     requires { IsTrue (list_all (λ v. nat_lt v (length labels.now.names)) vertices.now) }
-    ensures ok { OnOk result (Sends (O.written out.old) (O.written out.new)
-        page.old (flat_map (vertex_line labels.now) vertices.now) page.new) }
-    ensures err { OnErr result (Stops (O.written out.old) (O.written out.new)
-        page.old (flat_map (vertex_line labels.now) vertices.now)) }
-    ensures cause { HasCause (O.faults out.old) (O.faults out.new) result }
+    ensures { PutsText (flat_map (vertex_line labels.now) vertices.now) O.written O.faults out.old out.new page.old page.new result }
 {
     for v in vertices {
         page.line(out, b"vertex", &[labels.name(*v)])?;
@@ -144,11 +119,7 @@ fn put_crowd<O: Output>(
     labels: &Labels,
 ) -> Result<(), Fault>
     requires { e < length labels.now.edges }
-    ensures ok { OnOk result (Sends (O.written out.old) (O.written out.new)
-        page.old (cert_text labels.now (Crowd e rules.now)) page.new) }
-    ensures err { OnErr result (Stops (O.written out.old) (O.written out.new)
-        page.old (cert_text labels.now (Crowd e rules.now))) }
-    ensures cause { HasCause (O.faults out.old) (O.faults out.new) result }
+    ensures { PutsText (cert_text labels.now (Crowd e rules.now)) O.written O.faults out.old out.new page.old page.new result }
 {
     let tail = labels.name(labels.tail(e));
     let head = labels.name(labels.head(e));
@@ -159,11 +130,7 @@ fn put_crowd<O: Output>(
 
 /// A line for each rule.
 fn put_rules<O: Output>(page: &mut Page, out: &mut O, rules: &[u32]) -> Result<(), Fault>
-    ensures ok { OnOk result (Sends (O.written out.old) (O.written out.new)
-        page.old (flat_map rule_line rules.now) page.new) }
-    ensures err { OnErr result (Stops (O.written out.old) (O.written out.new)
-        page.old (flat_map rule_line rules.now)) }
-    ensures cause { HasCause (O.faults out.old) (O.faults out.new) result }
+    ensures { PutsText (flat_map rule_line rules.now) O.written O.faults out.old out.new page.old page.new result }
 {
     for c in rules {
         put_place(page, out, b"rule", *c)?;

@@ -1,8 +1,7 @@
 //! Bytes that are held back, so that they are written many at a time.
-ghost use Rattle.std.specs.Prelude.{◌≡◌, ◌+◌, ◌≤◌, [], ◌∷◌, ◌++◌, length, map, flat_map, decimal, OnOk, OnErr};
-ghost use Rattle.flow_io.specs.Outside.{HasCause};
+ghost use Rattle.std.specs.Prelude.{◌≡◌, ◌+◌, ◌≤◌, [], ◌∷◌, ◌++◌, length, map, flat_map, decimal, OnOk};
 ghost use Rattle.report_reading.specs.ReportText.{line};
-ghost use Rattle.path_report.specs.Sending.{Sends, Stops, spaced};
+ghost use Rattle.path_report.specs.Sending.{PutsText, spaced};
 
 use crate::digits::Digits;
 use flow_io::{Fault, Output, write_whole};
@@ -54,11 +53,8 @@ impl Page {
 
     /// Writes what is held.
     pub fn flush<O: Output>(&mut self, out: &mut O) -> Result<(), Fault>
-        ensures ok { OnOk result (Sends (O.written out.old) (O.written out.new)
-            self.old [] self.new) }
+        ensures text { PutsText [] O.written O.faults out.old out.new self.old self.new result }
         ensures empty { OnOk result (self.new ≡ []) }
-        ensures err { OnErr result (Stops (O.written out.old) (O.written out.new) self.old []) }
-        ensures cause { HasCause (O.faults out.old) (O.faults out.new) result }
     {
         write_whole(out, &self.bytes[..self.count])?;
         self.count = 0;
@@ -68,11 +64,7 @@ impl Page {
     /// Takes a piece where nothing is held.
     fn start<O: Output>(&mut self, out: &mut O, piece: &[u8]) -> Result<(), Fault>
         requires { self.old ≡ [] }
-        ensures ok { OnOk result (Sends (O.written out.old) (O.written out.new)
-            self.old piece.now self.new) }
-        ensures err { OnErr result (Stops (O.written out.old) (O.written out.new)
-            self.old piece.now) }
-        ensures cause { HasCause (O.faults out.old) (O.faults out.new) result }
+        ensures { PutsText piece.now O.written O.faults out.old out.new self.old self.new result }
     {
         if self.room() < piece.len() {
             return write_whole(out, piece);
@@ -83,11 +75,7 @@ impl Page {
 
     /// Takes a piece.
     pub fn put<O: Output>(&mut self, out: &mut O, piece: &[u8]) -> Result<(), Fault>
-        ensures ok { OnOk result (Sends (O.written out.old) (O.written out.new)
-            self.old piece.now self.new) }
-        ensures err { OnErr result (Stops (O.written out.old) (O.written out.new)
-            self.old piece.now) }
-        ensures cause { HasCause (O.faults out.old) (O.faults out.new) result }
+        ensures { PutsText piece.now O.written O.faults out.old out.new self.old self.new result }
     {
         if self.room() < piece.len() {
             self.flush(out)?;
@@ -99,11 +87,7 @@ impl Page {
 
     /// Takes a space and a field.
     pub fn field<O: Output>(&mut self, out: &mut O, field: &[u8]) -> Result<(), Fault>
-        ensures ok { OnOk result (Sends (O.written out.old) (O.written out.new)
-            self.old (spaced field.now) self.new) }
-        ensures err { OnErr result (Stops (O.written out.old) (O.written out.new)
-            self.old (spaced field.now)) }
-        ensures cause { HasCause (O.faults out.old) (O.faults out.new) result }
+        ensures { PutsText (spaced field.now) O.written O.faults out.old out.new self.old self.new result }
     {
         self.put(out, b" ")?;
         self.put(out, field)
@@ -111,11 +95,7 @@ impl Page {
 
     /// Takes a space and the digits of a number.
     pub fn number<O: Output>(&mut self, out: &mut O, number: u64) -> Result<(), Fault>
-        ensures ok { OnOk result (Sends (O.written out.old) (O.written out.new)
-            self.old (spaced (decimal number)) self.new) }
-        ensures err { OnErr result (Stops (O.written out.old) (O.written out.new)
-            self.old (spaced (decimal number))) }
-        ensures cause { HasCause (O.faults out.old) (O.faults out.new) result }
+        ensures { PutsText (spaced (decimal number)) O.written O.faults out.old out.new self.old self.new result }
     {
         let digits = Digits::of(number);
         self.field(out, digits.as_slice())
@@ -123,11 +103,7 @@ impl Page {
 
     /// Takes fields, a space before each.
     fn fields<O: Output>(&mut self, out: &mut O, fields: &[&[u8]]) -> Result<(), Fault>
-        ensures ok { OnOk result (Sends (O.written out.old) (O.written out.new)
-            self.old (flat_map (λ f. spaced f.now) fields.now) self.new) }
-        ensures err { OnErr result (Stops (O.written out.old) (O.written out.new)
-            self.old (flat_map (λ f. spaced f.now) fields.now)) }
-        ensures cause { HasCause (O.faults out.old) (O.faults out.new) result }
+        ensures { PutsText (flat_map (λ f. spaced f.now) fields.now) O.written O.faults out.old out.new self.old self.new result }
     {
         for field in fields {
             self.field(out, field)?;
@@ -142,11 +118,7 @@ impl Page {
         word: &[u8],
         fields: &[&[u8]],
     ) -> Result<(), Fault>
-        ensures ok { OnOk result (Sends (O.written out.old) (O.written out.new)
-            self.old (line (word.now ∷ map (λ f. f.now) fields.now)) self.new) }
-        ensures err { OnErr result (Stops (O.written out.old) (O.written out.new)
-            self.old (line (word.now ∷ map (λ f. f.now) fields.now))) }
-        ensures cause { HasCause (O.faults out.old) (O.faults out.new) result }
+        ensures { PutsText (line (word.now ∷ map (λ f. f.now) fields.now)) O.written O.faults out.old out.new self.old self.new result }
     {
         self.put(out, word)?;
         self.fields(out, fields)?;

@@ -1,12 +1,11 @@
 //! The lines of paths and of safe runs.
-ghost use Rattle.std.specs.Prelude.{◌<◌, length, flat_map, Some, IsTrue, OnOk, OnErr};
+ghost use Rattle.std.specs.Prelude.{◌<◌, length, flat_map, Some, IsTrue};
 ghost use Rattle.std.specs.List.{list_all};
 ghost use Rattle.decomposition.specs.Graph.{is_run};
-ghost use Rattle.flow_io.specs.Outside.{HasCause};
 ghost use Rattle.graph_text.specs.Labels.{name_at, head_at};
 ghost use Rattle.report_reading.specs.Names.{graph_at, names_along};
 ghost use Rattle.report_reading.specs.ReportText.{path_line, run_line, safe_text, is_path_entry, are_runs, are_runs_or_none};
-ghost use Rattle.path_report.specs.Sending.{Sends, Stops, spaced};
+ghost use Rattle.path_report.specs.Sending.{PutsText, spaced};
 
 use crate::digits::Digits;
 use crate::page::Page;
@@ -22,11 +21,7 @@ pub fn put_paths<O: Output>(
     labels: &Labels,
 ) -> Result<(), Fault>
     requires { IsTrue (list_all (is_path_entry labels.now) paths.now) }
-    ensures ok { OnOk result (Sends (O.written out.old) (O.written out.new)
-        page.old (flat_map (path_line labels.now) paths.now) page.new) }
-    ensures err { OnErr result (Stops (O.written out.old) (O.written out.new)
-        page.old (flat_map (path_line labels.now) paths.now)) }
-    ensures cause { HasCause (O.faults out.old) (O.faults out.new) result }
+    ensures { PutsText (flat_map (path_line labels.now) paths.now) O.written O.faults out.old out.new page.old page.new result }
 {
     for k in 0..paths.len() {
         put_path(page, out, paths.path(k).as_slice(), paths.weight(k), labels)?;
@@ -43,11 +38,7 @@ fn put_path<O: Output>(
     labels: &Labels,
 ) -> Result<(), Fault>
     requires { IsTrue (is_run (graph_at labels.now) path.now) }
-    ensures ok { OnOk result (Sends (O.written out.old) (O.written out.new)
-        page.old (path_line labels.now (path.now, weight)) page.new) }
-    ensures err { OnErr result (Stops (O.written out.old) (O.written out.new)
-        page.old (path_line labels.now (path.now, weight))) }
-    ensures cause { HasCause (O.faults out.old) (O.faults out.new) result }
+    ensures { PutsText (path_line labels.now (path.now, weight)) O.written O.faults out.old out.new page.old page.new result }
 {
     page.put(out, b"path")?;
     page.number(out, weight)?;
@@ -63,11 +54,7 @@ pub fn put_safe<O: Output>(
     labels: &Labels,
 ) -> Result<(), Fault>
     requires { IsTrue (are_runs_or_none labels.now safe.now) }
-    ensures ok { OnOk result (Sends (O.written out.old) (O.written out.new)
-        page.old (safe_text labels.now safe.now) page.new) }
-    ensures err { OnErr result (Stops (O.written out.old) (O.written out.new)
-        page.old (safe_text labels.now safe.now)) }
-    ensures cause { HasCause (O.faults out.old) (O.faults out.new) result }
+    ensures { PutsText (safe_text labels.now safe.now) O.written O.faults out.old out.new page.old page.new result }
 {
     match safe {
         None => Ok(()),
@@ -83,11 +70,7 @@ fn put_runs<O: Output>(
     labels: &Labels,
 ) -> Result<(), Fault>
     requires { IsTrue (are_runs labels.now runs.now) }
-    ensures ok { OnOk result (Sends (O.written out.old) (O.written out.new)
-        page.old (safe_text labels.now (Some runs.now)) page.new) }
-    ensures err { OnErr result (Stops (O.written out.old) (O.written out.new)
-        page.old (safe_text labels.now (Some runs.now))) }
-    ensures cause { HasCause (O.faults out.old) (O.faults out.new) result }
+    ensures { PutsText (safe_text labels.now (Some runs.now)) O.written O.faults out.old out.new page.old page.new result }
 {
     let count = Digits::of(runs.len() as u64);
     page.line(out, b"safe", &[count.as_slice()])?;
@@ -102,11 +85,7 @@ fn put_each_run<O: Output>(
     labels: &Labels,
 ) -> Result<(), Fault>
     requires { IsTrue (list_all (is_run (graph_at labels.now)) runs.now) }
-    ensures ok { OnOk result (Sends (O.written out.old) (O.written out.new)
-        page.old (flat_map (run_line labels.now) runs.now) page.new) }
-    ensures err { OnErr result (Stops (O.written out.old) (O.written out.new)
-        page.old (flat_map (run_line labels.now) runs.now)) }
-    ensures cause { HasCause (O.faults out.old) (O.faults out.new) result }
+    ensures { PutsText (flat_map (run_line labels.now) runs.now) O.written O.faults out.old out.new page.old page.new result }
 {
     for k in 0..runs.len() {
         put_run(page, out, runs.get(k).as_slice(), labels)?;
@@ -122,11 +101,7 @@ fn put_run<O: Output>(
     labels: &Labels,
 ) -> Result<(), Fault>
     requires { IsTrue (is_run (graph_at labels.now) run.now) }
-    ensures ok { OnOk result (Sends (O.written out.old) (O.written out.new)
-        page.old (run_line labels.now run.now) page.new) }
-    ensures err { OnErr result (Stops (O.written out.old) (O.written out.new)
-        page.old (run_line labels.now run.now)) }
-    ensures cause { HasCause (O.faults out.old) (O.faults out.new) result }
+    ensures { PutsText (run_line labels.now run.now) O.written O.faults out.old out.new page.old page.new result }
 {
     page.put(out, b"run")?;
     put_names(page, out, run, labels)?;
@@ -141,11 +116,7 @@ fn put_names<O: Output>(
     labels: &Labels,
 ) -> Result<(), Fault>
     requires { IsTrue (is_run (graph_at labels.now) run.now) }
-    ensures ok { OnOk result (Sends (O.written out.old) (O.written out.new)
-        page.old (flat_map spaced (names_along labels.now run.now)) page.new) }
-    ensures err { OnErr result (Stops (O.written out.old) (O.written out.new)
-        page.old (flat_map spaced (names_along labels.now run.now))) }
-    ensures cause { HasCause (O.faults out.old) (O.faults out.new) result }
+    ensures { PutsText (flat_map spaced (names_along labels.now run.now)) O.written O.faults out.old out.new page.old page.new result }
 {
     put_name(page, out, labels.tail(run[0]), labels)?;
     put_heads(page, out, run, labels)
@@ -159,11 +130,7 @@ fn put_heads<O: Output>(
     labels: &Labels,
 ) -> Result<(), Fault>
     requires { IsTrue (is_run (graph_at labels.now) run.now) }
-    ensures ok { OnOk result (Sends (O.written out.old) (O.written out.new)
-        page.old (flat_map (λ e. spaced (name_at labels.now (head_at labels.now e))) run.now) page.new) }
-    ensures err { OnErr result (Stops (O.written out.old) (O.written out.new)
-        page.old (flat_map (λ e. spaced (name_at labels.now (head_at labels.now e))) run.now)) }
-    ensures cause { HasCause (O.faults out.old) (O.faults out.new) result }
+    ensures { PutsText (flat_map (λ e. spaced (name_at labels.now (head_at labels.now e))) run.now) O.written O.faults out.old out.new page.old page.new result }
 {
     for e in run {
         put_name(page, out, labels.head(*e), labels)?;
@@ -174,11 +141,7 @@ fn put_heads<O: Output>(
 /// A space and the name of a vertex.
 fn put_name<O: Output>(page: &mut Page, out: &mut O, v: u32, labels: &Labels) -> Result<(), Fault>
     requires { v < length labels.now.names }
-    ensures ok { OnOk result (Sends (O.written out.old) (O.written out.new)
-        page.old (spaced (name_at labels.now v)) page.new) }
-    ensures err { OnErr result (Stops (O.written out.old) (O.written out.new)
-        page.old (spaced (name_at labels.now v))) }
-    ensures cause { HasCause (O.faults out.old) (O.faults out.new) result }
+    ensures { PutsText (spaced (name_at labels.now v)) O.written O.faults out.old out.new page.old page.new result }
 {
     page.field(out, labels.name(v))
 }

@@ -1,8 +1,7 @@
 //! The lines of what was found for a graph.
-ghost use Rattle.std.specs.Prelude.{[], ◌∷◌, codes, IsTrue, OnOk, OnErr};
-ghost use Rattle.flow_io.specs.Outside.{HasCause};
+ghost use Rattle.std.specs.Prelude.{[], ◌∷◌, codes, IsTrue};
 ghost use Rattle.report_reading.specs.ReportText.{line, number_or_none, mark_word, marks_text, solved_text, is_regular_solved};
-ghost use Rattle.path_report.specs.Sending.{Sends, Stops};
+ghost use Rattle.path_report.specs.Sending.{PutsText};
 
 use crate::certs::put_cert;
 use crate::digits::Digits;
@@ -22,11 +21,7 @@ pub fn put_solved<O: Output>(
     labels: &Labels,
 ) -> Result<(), Fault>
     requires { IsTrue (is_regular_solved labels.now solved.now) }
-    ensures ok { OnOk result (Sends (O.written out.old) (O.written out.new)
-        page.old (solved_text labels.now solved.now) page.new) }
-    ensures err { OnErr result (Stops (O.written out.old) (O.written out.new)
-        page.old (solved_text labels.now solved.now)) }
-    ensures cause { HasCause (O.faults out.old) (O.faults out.new) result }
+    ensures { PutsText (solved_text labels.now solved.now) O.written O.faults out.old out.new page.old page.new result }
 {
     put_marks(page, out, solved)?;
     put_paths(page, out, &solved.paths, labels)?;
@@ -37,11 +32,7 @@ pub fn put_solved<O: Output>(
 
 /// The lines of the mark and of the two bounds.
 fn put_marks<O: Output>(page: &mut Page, out: &mut O, solved: &Solved) -> Result<(), Fault>
-    ensures ok { OnOk result (Sends (O.written out.old) (O.written out.new)
-        page.old (marks_text solved.now) page.new) }
-    ensures err { OnErr result (Stops (O.written out.old) (O.written out.new)
-        page.old (marks_text solved.now)) }
-    ensures cause { HasCause (O.faults out.old) (O.faults out.new) result }
+    ensures { PutsText (marks_text solved.now) O.written O.faults out.old out.new page.old page.new result }
 {
     put_mark(page, out, solved.mark)?;
     put_bound(page, out, b"lower", solved.lower)?;
@@ -50,11 +41,7 @@ fn put_marks<O: Output>(page: &mut Page, out: &mut O, solved: &Solved) -> Result
 
 /// The line of the mark.
 fn put_mark<O: Output>(page: &mut Page, out: &mut O, mark: Mark) -> Result<(), Fault>
-    ensures ok { OnOk result (Sends (O.written out.old) (O.written out.new)
-        page.old (line (codes "mark" ∷ mark_word mark ∷ [])) page.new) }
-    ensures err { OnErr result (Stops (O.written out.old) (O.written out.new)
-        page.old (line (codes "mark" ∷ mark_word mark ∷ []))) }
-    ensures cause { HasCause (O.faults out.old) (O.faults out.new) result }
+    ensures { PutsText (line (codes "mark" ∷ mark_word mark ∷ [])) O.written O.faults out.old out.new page.old page.new result }
 {
     page.line(out, b"mark", &[word_of(mark)])
 }
@@ -66,11 +53,7 @@ fn put_bound<O: Output>(
     word: &[u8],
     bound: Option<u64>,
 ) -> Result<(), Fault>
-    ensures ok { OnOk result (Sends (O.written out.old) (O.written out.new)
-        page.old (line (word.now ∷ number_or_none bound ∷ [])) page.new) }
-    ensures err { OnErr result (Stops (O.written out.old) (O.written out.new)
-        page.old (line (word.now ∷ number_or_none bound ∷ []))) }
-    ensures cause { HasCause (O.faults out.old) (O.faults out.new) result }
+    ensures { PutsText (line (word.now ∷ number_or_none bound ∷ [])) O.written O.faults out.old out.new page.old page.new result }
 {
     match bound {
         None => page.line(out, word, &[b"none"]),

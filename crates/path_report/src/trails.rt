@@ -1,8 +1,7 @@
 //! The lines of trails and of their tokens.
-ghost use Rattle.std.specs.Prelude.{◌+◌, [], ◌∷◌, ◌++◌, flat_map, decimal, OnOk, OnErr};
-ghost use Rattle.flow_io.specs.Outside.{HasCause};
+ghost use Rattle.std.specs.Prelude.{◌+◌, [], ◌∷◌, ◌++◌, flat_map, decimal};
 ghost use Rattle.report_reading.specs.ReportText.{line, token_line, trail_fields, trail_text};
-ghost use Rattle.path_report.specs.Sending.{Sends, Stops};
+ghost use Rattle.path_report.specs.Sending.{PutsText};
 
 use crate::digits::Digits;
 use crate::page::Page;
@@ -16,11 +15,7 @@ pub fn put_trail_if_any<O: Output>(
     out: &mut O,
     trail: &Option<Trail>,
 ) -> Result<(), Fault>
-    ensures ok { OnOk result (Sends (O.written out.old) (O.written out.new)
-        page.old (trail_text trail.now) page.new) }
-    ensures err { OnErr result (Stops (O.written out.old) (O.written out.new)
-        page.old (trail_text trail.now)) }
-    ensures cause { HasCause (O.faults out.old) (O.faults out.new) result }
+    ensures { PutsText (trail_text trail.now) O.written O.faults out.old out.new page.old page.new result }
 {
     match trail {
         None => Ok(()),
@@ -35,11 +30,7 @@ pub fn put_trail<O: Output>(
     word: &[u8],
     trail: &Trail,
 ) -> Result<(), Fault>
-    ensures ok { OnOk result (Sends (O.written out.old) (O.written out.new)
-        page.old (line (word.now ∷ trail_fields trail.now) ++ flat_map token_line trail.now.tokens) page.new) }
-    ensures err { OnErr result (Stops (O.written out.old) (O.written out.new)
-        page.old (line (word.now ∷ trail_fields trail.now) ++ flat_map token_line trail.now.tokens)) }
-    ensures cause { HasCause (O.faults out.old) (O.faults out.new) result }
+    ensures { PutsText (line (word.now ∷ trail_fields trail.now) ++ flat_map token_line trail.now.tokens) O.written O.faults out.old out.new page.old page.new result }
 {
     put_trail_line(page, out, word, trail)?;
     put_tokens(page, out, trail.tokens.as_slice())
@@ -52,11 +43,7 @@ fn put_trail_line<O: Output>(
     word: &[u8],
     trail: &Trail,
 ) -> Result<(), Fault>
-    ensures ok { OnOk result (Sends (O.written out.old) (O.written out.new)
-        page.old (line (word.now ∷ trail_fields trail.now)) page.new) }
-    ensures err { OnErr result (Stops (O.written out.old) (O.written out.new)
-        page.old (line (word.now ∷ trail_fields trail.now))) }
-    ensures cause { HasCause (O.faults out.old) (O.faults out.new) result }
+    ensures { PutsText (line (word.now ∷ trail_fields trail.now)) O.written O.faults out.old out.new page.old page.new result }
 {
     let slots = Digits::of(trail.decision.slots as u64);
     let count = Digits::of(trail.tokens.len() as u64);
@@ -69,11 +56,7 @@ fn put_trail_line<O: Output>(
 
 /// A line for each token.
 fn put_tokens<O: Output>(page: &mut Page, out: &mut O, tokens: &[Token]) -> Result<(), Fault>
-    ensures ok { OnOk result (Sends (O.written out.old) (O.written out.new)
-        page.old (flat_map token_line tokens.now) page.new) }
-    ensures err { OnErr result (Stops (O.written out.old) (O.written out.new)
-        page.old (flat_map token_line tokens.now)) }
-    ensures cause { HasCause (O.faults out.old) (O.faults out.new) result }
+    ensures { PutsText (flat_map token_line tokens.now) O.written O.faults out.old out.new page.old page.new result }
 {
     for token in tokens {
         put_token(page, out, *token)?;
@@ -83,11 +66,7 @@ fn put_tokens<O: Output>(page: &mut Page, out: &mut O, tokens: &[Token]) -> Resu
 
 /// The line of a token.
 fn put_token<O: Output>(page: &mut Page, out: &mut O, token: Token) -> Result<(), Fault>
-    ensures ok { OnOk result (Sends (O.written out.old) (O.written out.new)
-        page.old (token_line token) page.new) }
-    ensures err { OnErr result (Stops (O.written out.old) (O.written out.new)
-        page.old (token_line token)) }
-    ensures cause { HasCause (O.faults out.old) (O.faults out.new) result }
+    ensures { PutsText (token_line token) O.written O.faults out.old out.new page.old page.new result }
 {
     match token {
         Token::Gap => page.line(out, b"gap", &[]),
@@ -104,11 +83,7 @@ pub fn put_place<O: Output>(
     word: &[u8],
     place: u32,
 ) -> Result<(), Fault>
-    ensures ok { OnOk result (Sends (O.written out.old) (O.written out.new)
-        page.old (line (word.now ∷ decimal (place + 1) ∷ [])) page.new) }
-    ensures err { OnErr result (Stops (O.written out.old) (O.written out.new)
-        page.old (line (word.now ∷ decimal (place + 1) ∷ []))) }
-    ensures cause { HasCause (O.faults out.old) (O.faults out.new) result }
+    ensures { PutsText (line (word.now ∷ decimal (place + 1) ∷ [])) O.written O.faults out.old out.new page.old page.new result }
 {
     let number = Digits::of(place as u64 + 1);
     page.line(out, word, &[number.as_slice()])

@@ -2,7 +2,7 @@
 ghost use Rattle.std.specs.Prelude.{IsTrue, OnOk, OnErr};
 ghost use Rattle.flow_io.specs.Outside.{Adds, AddsPrefix, HasCause};
 ghost use Rattle.report_reading.specs.ReportText.{graph_line, model_line, body_text, text_of, is_regular_body, is_regular};
-ghost use Rattle.path_report.specs.Sending.{Sends, Stops};
+ghost use Rattle.path_report.specs.Sending.{PutsText};
 
 use crate::digits::Digits;
 use crate::page::Page;
@@ -32,11 +32,7 @@ pub fn write_report<O: Output>(out: &mut O, report: &Report, labels: &Labels) ->
 
 /// The line with the number and the name of a block.
 fn put_graph<O: Output>(page: &mut Page, out: &mut O, report: &Report) -> Result<(), Fault>
-    ensures ok { OnOk result (Sends (O.written out.old) (O.written out.new)
-        page.old (graph_line report.now.index report.now.name) page.new) }
-    ensures err { OnErr result (Stops (O.written out.old) (O.written out.new)
-        page.old (graph_line report.now.index report.now.name)) }
-    ensures cause { HasCause (O.faults out.old) (O.faults out.new) result }
+    ensures { PutsText (graph_line report.now.index report.now.name) O.written O.faults out.old out.new page.old page.new result }
 {
     let number = Digits::of(report.index);
     let name = report.name.as_slice();
@@ -49,11 +45,7 @@ fn put_graph<O: Output>(page: &mut Page, out: &mut O, report: &Report) -> Result
 
 /// The line of the model.
 fn put_model<O: Output>(page: &mut Page, out: &mut O, mode: Mode) -> Result<(), Fault>
-    ensures ok { OnOk result (Sends (O.written out.old) (O.written out.new)
-        page.old (model_line mode) page.new) }
-    ensures err { OnErr result (Stops (O.written out.old) (O.written out.new)
-        page.old (model_line mode)) }
-    ensures cause { HasCause (O.faults out.old) (O.faults out.new) result }
+    ensures { PutsText (model_line mode) O.written O.faults out.old out.new page.old page.new result }
 {
     match mode {
         Mode::Exact => page.line(out, b"model", &[b"exact"]),
@@ -70,11 +62,7 @@ fn put_body<O: Output>(
     labels: &Labels,
 ) -> Result<(), Fault>
     requires { IsTrue (is_regular_body labels.now body.now) }
-    ensures ok { OnOk result (Sends (O.written out.old) (O.written out.new)
-        page.old (body_text labels.now body.now) page.new) }
-    ensures err { OnErr result (Stops (O.written out.old) (O.written out.new)
-        page.old (body_text labels.now body.now)) }
-    ensures cause { HasCause (O.faults out.old) (O.faults out.new) result }
+    ensures { PutsText (body_text labels.now body.now) O.written O.faults out.old out.new page.old page.new result }
 {
     match body {
         Body::Refused(refusal) => {

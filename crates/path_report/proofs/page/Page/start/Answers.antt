@@ -1,10 +1,8 @@
-use Rattle.std.proofs.Common.{sym, ap, ◌++◌}
-use Rattle.std.proofs.lemmas.Result.{on_err_weaker}
-use Rattle.path_report.proofs.SendingLemmas.{Stops-prefix}
+use Rattle.std.proofs.Common.{ap, sym, ◌++◌}
+use Rattle.path_report.proofs.Putting.{PutsText-written}
 use Rattle.path_report.proofs.page.Page.start.Goals as goal
 
-pub returns-then-room-piece-clause-err : goal.returns-then-room-piece-clause-err
-returns-then-room-piece-clause-err g c =
-    on_err_weaker c.write_whole.result
-    (Stops-prefix c.args.self.now c.args.piece.now _ (sym (ap (λ held. held ++ c.args.piece.now) c.requires)))
-    c.write_whole.ensures.err
+pub returns-then-room-piece : goal.returns-then-room-piece
+returns-then-room-piece g c =
+    let wrote = c.write_whole.ensures in
+    PutsText-written c.write_whole.result (sym (ap (λ held. held ++ c.args.piece.now) c.requires)) wrote.ok wrote.err wrote.cause c.requires
