@@ -20,7 +20,7 @@ bare g = graph_of (vertex_count g) g.edges
 -- whether an edge leads from a vertex to the first of a list, and from each of the list to the next
 abbrev pub are_joined : Graph → ℕ → List ℕ → Bool
 are_joined g u [] = true
-are_joined g u (v ∷ vs) = list_any (same_ends (u, v)) g.edges && are_joined g v vs
+are_joined g u (v ∷ vs) = list_any (λ e. same_ends e (u, v)) g.edges && are_joined g v vs
 
 -- the last of a vertex and those that follow it
 abbrev pub last_of : ℕ → List ℕ → ℕ

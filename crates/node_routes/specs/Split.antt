@@ -45,17 +45,17 @@ route_in vertices path = filter (λ e. nat_lt e vertices) path
 -- the place of the first edge with these ends
 abbrev pub edge_place : List (ℕ × ℕ) → ℕ × ℕ → ℕ
 edge_place [] ends = 0
-edge_place (e ∷ es) ends = cond (same_ends ends e) 0 (suc (edge_place es ends))
+edge_place (e ∷ es) ends = cond (same_ends e ends) 0 (suc (edge_place es ends))
 
--- the path of the split graph along a vertex and those that follow it
-abbrev pub path_from : VertexGraph → ℕ → List ℕ → List ℕ
-path_from g u [] = u ∷ []
-path_from g u (v ∷ vs) = u ∷ (vertex_count g + edge_place g.edges (u, v)) ∷ path_from g v vs
+-- the edges of the split graph from the exit of a vertex along those that follow it
+abbrev pub path_behind : VertexGraph → ℕ → List ℕ → List ℕ
+path_behind g u [] = []
+path_behind g u (v ∷ vs) = (vertex_count g + edge_place g.edges (u, v)) ∷ v ∷ path_behind g v vs
 
 -- the path of the split graph along a route
 abbrev pub path_of : VertexGraph → List ℕ → List ℕ
 path_of g [] = []
-path_of g (v ∷ vs) = path_from g v vs
+path_of g (v ∷ vs) = v ∷ path_behind g v vs
 
 -- the routes of weighted paths, and the paths of weighted routes
 abbrev pub routes_of : VertexGraph → List (List ℕ × ℕ) → List (List ℕ × ℕ)

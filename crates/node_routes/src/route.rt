@@ -10,8 +10,8 @@ pub fn route_of(alloc: Global, vertices: u32, path: &[u32]) -> Result<Ids, Alloc
     ensures { IfOk result (λ route. route ≡ route_in vertices path.now) }
 {
     let mut route = Ids::new(alloc);
-    for vertex in path.iter().filter(|edge| **edge < vertices) {
-        route.push(*vertex)?;
+    for vertex in path.iter().copied().filter(|edge| *edge < vertices) {
+        route.push(vertex)?;
     }
     Ok(route)
 }
