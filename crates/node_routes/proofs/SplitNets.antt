@@ -30,7 +30,7 @@ Differ : List (ℕ × ℕ) → Type 0
 Differ es = (j k : ℕ) → j < k → k < length es → same_ends (get_or es j (0, 0)) (get_or es k (0, 0)) ≡ false
 
 distinct-from_places : (es : List (ℕ × ℕ)) → Differ es → IsDistinct same_ends es
-unfolding IsDistinct, Differ
+unfolding IsDistinct Differ
 distinct-from_places [] each = tt
 distinct-from_places (e ∷ es) each = (
   every-from_places (λ y. same_ends e y ≡ false) es (0, 0) (λ k l. each 0 (suc k) (omega arith) (omega arith)),
@@ -38,7 +38,7 @@ distinct-from_places (e ∷ es) each = (
 )
 
 distinct-at : (es : List (ℕ × ℕ)) → IsDistinct same_ends es → Differ es
-unfolding IsDistinct, Differ
+unfolding IsDistinct Differ
 distinct-at [] distinct j k less l = absurd (omega arith)
 distinct-at (e ∷ es) distinct j zero less l = absurd (omega arith)
 distinct-at (e ∷ es) distinct zero (suc k) less l = all-at (λ y. same_ends e y ≡ false) es (0, 0) k distinct.0 (omega arith)
@@ -51,11 +51,13 @@ in_range g net = all-from_places (λ e. nat_lt e.0 (2 * vertex_count g) && nat_l
   each : (e : ℕ) → e < edge_count (split_graph g) → (nat_lt (tail (split_graph g) e) (2 * vertex_count g) && nat_lt (head (split_graph g) e) (2 * vertex_count g)) ≡ true
   each e inside =
       elim (split-cases g e inside) [
-        | inl vertex ↦ and_from _ _ (lt-ltb _ _ (omega (arith, vertex-tail g e vertex))) (lt-ltb _ _ (omega (arith, vertex-head g e vertex)))
+        | inl vertex ↦ and_from _ _ (lt-ltb (tail (split_graph g) e) (2 * vertex_count g) (omega (arith, vertex-tail g e vertex)))
+            (lt-ltb (head (split_graph g) e) (2 * vertex_count g) (omega (arith, vertex-head g e vertex)))
         | inr link ↦
             let leaves : tail (split_graph g) e ≡ 2 * tail (bare g) link.edge + 1 = ap (tail (split_graph g)) link.place ∙ link-tail g link.edge link.inside in
             let enters : head (split_graph g) e ≡ 2 * head (bare g) link.edge = ap (head (split_graph g)) link.place ∙ link-head g link.edge link.inside in
-            and_from _ _ (lt-ltb _ _ (omega (arith, leaves, tail-inside g net link.edge link.inside))) (lt-ltb _ _ (omega (arith, enters, head-inside g net link.edge link.inside)))
+            and_from _ _ (lt-ltb (tail (split_graph g) e) (2 * vertex_count g) (omega (arith, leaves, tail-inside g net link.edge link.inside)))
+            (lt-ltb (head (split_graph g) e) (2 * vertex_count g) (omega (arith, enters, head-inside g net link.edge link.inside)))
       ]
 
 -- two edges of the split graph with the same ends are those of one vertex, or of two edges with the same ends
@@ -123,7 +125,7 @@ record Follows (g : VertexGraph) (u x : ℕ) (es : List ℕ) : Type 0 where
   end : IsSideOf (walk_end (bare g) u (links (vertex_count g) es)) (walk_end (split_graph g) x es)
 
 follows : (g : VertexGraph) (u x : ℕ) (es : List ℕ) → IsSideOf u x → is_walk_from (split_graph g) x es ≡ true → Follows g u x es
-unfolding links, IsSideOf
+unfolding links IsSideOf
 follows g u x [] side walk = record { walk = refl; end = side }
 follows g u x (e ∷ es) side walk =
     let s : IsStep (split_graph g) x e es = walk-cons (split_graph g) x e es walk in
