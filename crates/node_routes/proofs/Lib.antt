@@ -2,3 +2,4 @@ pub mod Splitting
 pub mod Corresponding
 pub mod Explaining
 pub mod SplitNets
+pub mod Examples

@@ -2,6 +2,7 @@
 
 ghost use Rattle.node_routes.specs.Laws.{SplitGraphsAreNets, SplitInstancesAreValid, PathsAreRoutes, RoutesArePaths, AnswersAreNodeAnswers, NodeAnswersAreAnswers};
 ghost use Rattle.node_routes.specs.Laws.{NoErrorIsAddingUp, MeetingIsExplaining, OptimalIsFewest, InfeasibleIsUnexplained, LowerBoundsCountRoutes};
+ghost use Rattle.node_routes.specs.Worked.{WorkedExamples};
 
 /// The split graph is a net, and its instance is valid.
 pub fn split_graphs_are_valid()
@@ -32,4 +33,9 @@ pub fn marks_speak_of_routes()
     ensures optimal { OptimalIsFewest }
     ensures infeasible { InfeasibleIsUnexplained }
     ensures bounds { LowerBoundsCountRoutes }
+{}
+
+/// The definitions compute the worked examples.
+pub fn worked_examples()
+    ensures { WorkedExamples }
 {}
