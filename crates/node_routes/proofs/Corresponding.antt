@@ -1,15 +1,15 @@
 -- Paths of a split graph and routes correspond one to one.
-use Rattle.std.proofs.Common.{◌⊎◌, ◌≡◌, ℕ, zero, suc, ◌+◌, ◌*◌, ◌<◌, ◌≤◌, refl, sym, ap, ◌∙◌, arith, inl, inr, cond, Bool, true, false, ◌&&◌, ◌==◌, eqb, nat_lt, List, [], ◌∷◌, length, get_or, true≢false, ltb-true, lt-ltb, le-ltb, eqb-true, eq-eqb, subst}
+use Rattle.std.proofs.Common.{◌≡◌, ℕ, zero, suc, ◌+◌, ◌*◌, ◌<◌, refl, sym, ap, ◌∙◌, arith, inl, inr, true, false, ◌&&◌, ◌==◌, nat_lt, List, [], ◌∷◌, length, get_or, true≢false, ltb-true, lt-ltb, le-ltb, eqb-true, eq-eqb, subst}
 use Rattle.std.specs.List.{list_any, list_all, IsDistinct, AllByRecursion}
 use Rattle.std.proofs.lemmas.Bool.{cases_Bool, and_parts, and_from, both_ways}
-use Rattle.decomposition.specs.Graph.{Graph, IsNet, edge_count, tail, head, is_source, is_sink, is_walk_from, walk_end, is_run, is_path, IsPath, same_ends}
+use Rattle.decomposition.specs.Graph.{IsNet, tail, head, is_source, is_sink, is_walk_from, walk_end, is_run, IsPath, same_ends}
 use Rattle.decomposition.proofs.Walks.{IsStep, walk-cons, walk-from_step}
 use Rattle.decomposition.proofs.Root.{all-place}
 use Rattle.decomposition.proofs.Members.{any-cons, any-from_place}
-use Rattle.node_routes.specs.Routes.{VertexGraph, vertex_count, bare, are_joined, last_of, is_route, IsRoute}
+use Rattle.node_routes.specs.Routes.{VertexGraph, vertex_count, bare, are_joined, last_of, is_route}
 use Rattle.node_routes.specs.Split.{split_graph, route_in, edge_place, path_behind, path_of}
 use Rattle.node_routes.specs.Laws.{PathsAreRoutes, RoutesArePaths}
-use Rattle.node_routes.proofs.Splitting.{split-edge_count, vertex-tail, vertex-head, link-tail, link-head, IsLink, split-cases, vertex-inside, link-inside, from_entry, from_exit, entry-source, exit-sink, exit-no_source, entry-no_sink}
+use Rattle.node_routes.proofs.Splitting.{vertex-tail, vertex-head, link-tail, link-head, IsLink, split-cases, vertex-inside, link-inside, from_entry, from_exit, entry-source, exit-sink, exit-no_source, entry-no_sink}
 
 -- ---- the place of an edge
 

@@ -1,10 +1,10 @@
 -- The worked examples: by computation, and by a cut where nothing explains.
-use Rattle.std.proofs.Common.{◌≡◌, ℕ, zero, suc, ◌+◌, ◌<◌, ◌≤◌, refl, arith, inl, inr, cond, Bool, true, false, List, [], ◌∷◌, length, slice_index}
+use Rattle.std.proofs.Common.{◌≡◌, ℕ, zero, suc, ◌+◌, ◌≤◌, refl, arith, cond, Bool, true, false, List, [], ◌∷◌, length}
 use Rattle.decomposition.specs.declared.Side.TheVariants.{Entering}
 use Rattle.decomposition.specs.Graph.{IsNet}
 use Rattle.decomposition.proofs.Tests.{IsNet-from_tests}
 use Rattle.decomposition.proofs.Cuts.{cuts_refute}
-use Rattle.node_routes.specs.Routes.{VertexGraph, bare, AddUp, Explains, IsFewest}
+use Rattle.node_routes.specs.Routes.{bare, AddUp, Explains}
 use Rattle.node_routes.specs.Split.{split_instance}
 use Rattle.node_routes.specs.Worked.{fork, uneven, single, nothing, weightless, WorkedExamples}
 use Rattle.node_routes.proofs.SplitNets.{split_graphs_are_nets}

@@ -1,5 +1,5 @@
 -- Weighted paths of a split graph have error 0 exactly where their routes explain; so what a mark promises of paths holds of routes.
-use Rattle.std.proofs.Common.{◌⊎◌, ◌≡◌, ℕ, zero, suc, ◌+◌, ◌-◌, ◌<◌, ◌≤◌, refl, sym, ap, ◌∙◌, arith, inl, inr, cond, Bool, true, false, ◌&&◌, ◌||◌, ◌==◌, eqb, nat_le, nat_lt, List, [], ◌∷◌, map, length, get_or, true≢false, ltb-true, lt-ltb, ltb-false, eqb-true, eq-eqb, ne_eqb, subst}
+use Rattle.std.proofs.Common.{◌≡◌, ℕ, zero, suc, ◌+◌, ◌-◌, ◌<◌, ◌≤◌, refl, sym, ap, ◌∙◌, arith, inl, inr, cond, true, false, ◌&&◌, ◌||◌, ◌==◌, nat_le, nat_lt, List, [], ◌∷◌, map, length, get_or, true≢false, ltb-true, ltb-false, eqb-true, eq-eqb, ne_eqb, subst}
 use Rattle.std.specs.List.{list_any, list_all}
 use Rattle.std.proofs.lemmas.Bool.{cases_Bool, and_parts, and_from}
 use Rattle.std.proofs.lemmas.List.{get_or_append_left, get_or-append_right, get_or-map, length-map}
@@ -7,16 +7,16 @@ use Rattle.decomposition.specs.declared.Range.{Range}
 use Rattle.decomposition.specs.declared.Mode.TheVariants.{Interval}
 use Rattle.decomposition.specs.Graph.{IsNet, IsPath, edge_count, tail, has_edge, is_path, same_ends}
 use Rattle.decomposition.specs.Answer.{weight_on, IsAnswer}
-use Rattle.decomposition.specs.Instance.{error, range, distance, Meets, IsOptimal}
+use Rattle.decomposition.specs.Instance.{error, range, distance, Meets}
 use Rattle.decomposition.proofs.Sums.{sum_below-nil}
 use Rattle.decomposition.proofs.Members.{any-cons, any-here, any-there}
 use Rattle.decomposition.proofs.Cuts.{within}
 use Rattle.decomposition.proofs.Root.{all-parts}
-use Rattle.node_routes.specs.Routes.{VertexGraph, vertex_count, bare, is_route, are_joined, IsNodeAnswer, AddUp, Explains, IsFewest}
+use Rattle.node_routes.specs.Routes.{VertexGraph, vertex_count, bare, is_route, are_joined, IsNodeAnswer, AddUp, Explains}
 use Rattle.node_routes.specs.Split.{just, up_to, heaviest, split_graph, split_instance, route_in, edge_place, path_behind, path_of, routes_of, paths_of}
 use Rattle.node_routes.specs.Laws.{AnswersAreNodeAnswers, NodeAnswersAreAnswers, NoErrorIsAddingUp, MeetingIsExplaining, OptimalIsFewest, InfeasibleIsUnexplained, LowerBoundsCountRoutes}
-use Rattle.node_routes.proofs.Splitting.{split-edge_count, IsLink, split-cases, vertex-inside}
-use Rattle.node_routes.proofs.Corresponding.{IsPlaced, edge_place-found, tail-inside, IsAlongRoute, along_route, paths_are_routes, routes_are_paths}
+use Rattle.node_routes.proofs.Splitting.{split-cases, vertex-inside}
+use Rattle.node_routes.proofs.Corresponding.{edge_place-found, tail-inside, IsAlongRoute, along_route, paths_are_routes, routes_are_paths}
 
 -- ---- answers
 

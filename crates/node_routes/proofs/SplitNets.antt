@@ -1,10 +1,9 @@
 -- The split graph of a net is a net, and its instance is valid.
-use Rattle.std.proofs.Common.{◌⊎◌, ◌≡◌, ℕ, zero, suc, ◌+◌, ◌-◌, ◌*◌, ◌<◌, ◌≤◌, refl, sym, ap, ◌∙◌, arith, inl, inr, cond, Bool, true, false, ◌&&◌, ◌==◌, eqb, nat_le, nat_lt, List, [], ◌∷◌, ◌++◌, map, length, get_or, ltb-true, lt-ltb, le-ltb, leb-true, le-leb, eqb-true, eq-eqb, subst, length-append}
+use Rattle.std.proofs.Common.{◌⊎◌, ◌≡◌, ℕ, zero, suc, ◌+◌, ◌-◌, ◌*◌, ◌<◌, ◌≤◌, refl, sym, ap, ◌∙◌, arith, inl, inr, cond, Bool, true, false, ◌&&◌, ◌==◌, nat_le, nat_lt, List, [], ◌∷◌, map, length, get_or, lt-ltb, le-ltb, leb-true, le-leb, eqb-true, eq-eqb, subst, length-append}
 use Rattle.std.specs.List.{list_all, IsDistinct, AllByRecursion}
 use Rattle.std.proofs.lemmas.Bool.{and_parts, and_from, both_ways, false_from_ne_true}
 use Rattle.std.proofs.lemmas.List.{length-map}
-use Rattle.decomposition.specs.declared.Range.{Range}
-use Rattle.decomposition.specs.Graph.{Graph, IsNet, edge_count, tail, head, is_walk_from, walk_end, same_ends}
+use Rattle.decomposition.specs.Graph.{IsNet, edge_count, tail, head, is_walk_from, walk_end, same_ends}
 use Rattle.decomposition.specs.Instance.{range}
 use Rattle.decomposition.proofs.Walks.{IsStep, walk-cons, walk-from_step}
 use Rattle.decomposition.proofs.Root.{all-parts, all-place}

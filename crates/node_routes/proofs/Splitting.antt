@@ -1,11 +1,11 @@
 -- The edges of a split graph and their ends, and its sources and sinks.
-use Rattle.std.proofs.Common.{◌⊎◌, ◌≡◌, ℕ, ◌+◌, ◌-◌, ◌*◌, ◌<◌, ◌≤◌, refl, sym, ap, ◌∙◌, arith, inl, inr, Bool, true, false, not, ◌||◌, ◌==◌, eqb, List, [], ◌∷◌, ◌++◌, map, length, get_or, eqb-true, eq-eqb, ne_eqb, subst, length-append}
+use Rattle.std.proofs.Common.{◌⊎◌, ◌≡◌, ℕ, ◌+◌, ◌-◌, ◌*◌, ◌<◌, refl, sym, ap, ◌∙◌, arith, inl, inr, Bool, false, not, ◌||◌, ◌==◌, List, [], ◌∷◌, map, length, get_or, eq-eqb, ne_eqb, subst, length-append}
 use Rattle.std.specs.List.{list_any, range_with_len}
 use Rattle.std.proofs.lemmas.Bool.{cases_eq, cases_lt}
 use Rattle.std.proofs.lemmas.List.{get_or_append_left, get_or-append_right, get_or-map, length-map}
 use Rattle.std.proofs.lemmas.List.FromFn.{get_or-map-range_with_len, length-map-range_with_len}
 use Rattle.std.proofs.lemmas.List.Folds.{list_any-append}
-use Rattle.decomposition.specs.Graph.{Graph, edge_count, tail, head, is_source, is_sink}
+use Rattle.decomposition.specs.Graph.{edge_count, tail, head, is_source, is_sink}
 use Rattle.decomposition.proofs.Flows.{head-no_source, tail-no_sink}
 use Rattle.node_routes.specs.Routes.{VertexGraph, vertex_count, bare}
 use Rattle.node_routes.specs.Split.{vertex_edge, link_edge, split_graph}

@@ -1,5 +1,5 @@
 -- Laws over routes and split graphs, each the contract of a function.
-use Rattle.std.specs.Prelude.{◌≡◌, ◌↔◌, ℕ, ◌≤◌, nat_le, List, IsTrue}
+use Rattle.std.specs.Prelude.{◌≡◌, ◌↔◌, ℕ, nat_le, List, IsTrue}
 use Rattle.std.specs.List.{list_all}
 use Rattle.decomposition.specs.declared.Mode.TheVariants.{Interval}
 use Rattle.decomposition.specs.Graph.{IsNet, IsPath}

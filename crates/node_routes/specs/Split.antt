@@ -1,5 +1,5 @@
 -- The split graph: each vertex becomes an edge from its entry to its exit, and paths of it become routes.
-use Rattle.std.specs.Prelude.{ℕ, zero, suc, ◌+◌, ◌*◌, max, nat_lt, cond, List, [], ◌∷◌, ◌++◌, map, filter, length}
+use Rattle.std.specs.Prelude.{ℕ, suc, ◌+◌, ◌*◌, max, nat_lt, cond, List, [], ◌∷◌, ◌++◌, map, filter}
 use Rattle.std.specs.List.{range_with_len}
 use Rattle.decomposition.specs.declared.Range.{Range}
 use Rattle.decomposition.specs.Graph.{Graph, graph_of, same_ends}

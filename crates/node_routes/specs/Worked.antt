@@ -1,6 +1,5 @@
 -- Small worked examples, which the definitions compute.
-use Rattle.std.specs.Prelude.{◌≡◌, ℕ, true, false, List, [], ◌∷◌}
-use Rattle.decomposition.specs.declared.Range.{Range}
+use Rattle.std.specs.Prelude.{◌≡◌, true, false, [], ◌∷◌}
 use Rattle.node_routes.specs.Routes.{VertexGraph, is_route, IsFewest, IsUnexplained}
 use Rattle.node_routes.specs.Split.{just, up_to, split_graph, split_ranges, route_in, path_of}
 
