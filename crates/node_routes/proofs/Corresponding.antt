@@ -167,8 +167,7 @@ is_route-from g v vs within source lead =
 pub paths_are_routes : PathsAreRoutes
 paths_are_routes g path net is =
     let a : IsAlongRoute g path = along_route g path net is in
-    let route : route_in (vertex_count g) path ≡ a.first ∷ a.others = ap (route_in (vertex_count g)) a.same ∙ route_in-path_of g a.first a.others a.within a.lead.inside in
-    (
+    let route : route_in (vertex_count g) path ≡ a.first ∷ a.others = ap (route_in (vertex_count g)) a.same ∙ route_in-path_of g a.first a.others a.within a.lead.inside in (
       subst (λ r. is_route g r ≡ true) (sym route) (is_route-from g a.first a.others a.within a.source a.lead),
       ap (path_of g) route ∙ sym a.same,
     )

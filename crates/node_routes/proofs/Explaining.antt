@@ -123,8 +123,8 @@ link-range g k inside =
     let place : vertex_count g + k - vertex_count g ≡ k = omega arith in
     get_or-append_right (map just g.weights) (map (λ e. up_to (heaviest g.weights)) g.edges) (vertex_count g) (vertex_count g + k) (record { lo = 0; hi = 0 }) (length-map g.weights just) (omega arith)
     ∙ (
-      ap (λ i. get_or (map (λ (e : ℕ × ℕ). up_to (heaviest g.weights)) g.edges) i (record { lo = 0; hi = 0 })) place
-      ∙ get_or-map (λ (e : ℕ × ℕ). up_to (heaviest g.weights)) g.edges k (0, 0) (record { lo = 0; hi = 0 }) inside
+    ap (λ i. get_or (map (λ (e : ℕ × ℕ). up_to (heaviest g.weights)) g.edges) i (record { lo = 0; hi = 0 })) place
+    ∙ get_or-map (λ (e : ℕ × ℕ). up_to (heaviest g.weights)) g.edges k (0, 0) (record { lo = 0; hi = 0 }) inside
     )
 
 pub le-heaviest : (ws : List ℕ) (v : ℕ) → v < length ws → get_or ws v 0 ≤ heaviest ws

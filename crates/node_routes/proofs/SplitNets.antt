@@ -146,7 +146,7 @@ follows g u x (e ∷ es) side walk =
           let step : link.edge ∷ links (vertex_count g) es ≡ links (vertex_count g) (e ∷ es) = sym (links-link (vertex_count g) e link.edge es link.place) in
           record {
             walk = subst (λ ls. is_walk_from (bare g) u ls ≡ true) step
-            (walk-from_step (bare g) u link.edge (links (vertex_count g) es) (record { inside = link.inside; leaves = same; rest = rest.walk }));
+                (walk-from_step (bare g) u link.edge (links (vertex_count g) es) (record { inside = link.inside; leaves = same; rest = rest.walk }));
             end = subst (λ ls. IsSideOf (walk_end (bare g) u ls) (walk_end (split_graph g) (head (split_graph g) e) es)) step rest.end;
           }
     ]
