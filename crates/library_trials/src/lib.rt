@@ -26,6 +26,8 @@ mod readings;
 #[cfg(test)]
 mod reports;
 #[cfg(test)]
+mod routes;
+#[cfg(test)]
 mod safe;
 #[cfg(test)]
 mod said;

@@ -1,0 +1,5 @@
+pub mod Splitting
+pub mod Corresponding
+pub mod Explaining
+pub mod SplitNets
+pub mod Examples

@@ -1,0 +1,4 @@
+pub mod Routes
+pub mod Split
+pub mod Laws
+pub mod Worked
