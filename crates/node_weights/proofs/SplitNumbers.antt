@@ -1,10 +1,11 @@
 -- The digits of a number are a weight, and they are a count.
-use Rattle.std.proofs.Common.{◌≡◌, ℕ, suc, zero, ◌+◌, ◌<◌, ◌≤◌, ◌^◌, Bool, true, false, not, leb, ltb, ◌&&◌, ◌||◌, List, [], ◌∷◌, length, get_or, position, Some, None, sym, ap, ◌∙◌, arith}
+use Rattle.std.proofs.Common.{◌≡◌, ℕ, suc, zero, ◌+◌, ◌<◌, ◌≤◌, ◌^◌, Bool, true, false, not, refl, leb, ltb, ◌&&◌, ◌||◌, List, [], ◌∷◌, length, get_or, position, Some, None, sym, ap, ◌∙◌, arith}
 use Rattle.std.specs.Prelude.{◌==◌, nat_le, decimal}
 use Rattle.std.specs.List.{position_or_len}
 use Rattle.std.proofs.lemmas.Bool.{and_parts, and_from, cond-true, cond-false, le-leb, leb-true, le-ltb, ne_eqb}
 use Rattle.std.proofs.lemmas.Fmt.{digits_decimal, length-decimal-le}
 use Rattle.std.proofs.lemmas.List.Sums.{position_or_len_is}
+use Rattle.graph_text.specs.Lines.{begins_with_hash}
 use Rattle.graph_text.specs.Reading.{are_digits, number_of, weight_in, is_count, most_weight}
 use Rattle.graph_text.proofs.Weights.{weight_in-whole}
 use Rattle.report_reading.specs.LineFields.{begins_with_zero, greatest}
@@ -48,3 +49,13 @@ pub spelled-count : (n : ℕ) → n < 2 ^ 16 → is_count (decimal n ∷ []) ≡
 spelled-count n small =
     and_from (are_digits (decimal n)) (nat_le (length (decimal n)) 19) (digits-spell n (omega arith)).0
     (le-leb (length (decimal n)) 19 (length-decimal-le 19 n (omega arith) (omega arith) (omega arith)))
+
+-- digits do not begin as a comment
+digits-no_hash : (ds : List ℕ) → digits_only ds ≡ true → begins_with_hash ds ≡ false
+digits-no_hash [] h = refl
+digits-no_hash (b ∷ ds) h =
+    let low : 48 ≤ b = leb-true 48 b (and_parts (nat_le 48 b) (nat_le b 57) (and_parts (nat_le 48 b && nat_le b 57) (digits_only ds) h).0).0 in
+    ne_eqb b 35 (λ e. omega arith)
+
+pub decimal-no_hash : (n : ℕ) → n < 2 ^ 64 → begins_with_hash (decimal n) ≡ false
+decimal-no_hash n small = digits-no_hash (decimal n) (digits_decimal own n small)
