@@ -1,21 +1,21 @@
 -- The lines of named edges, as the interval model reads them.
-use Rattle.std.proofs.Common.{◌≡◌, ℕ, ◌+◌, ◌-◌, ◌<◌, ◌≤◌, ◌^◌, Bool, true, false, not, ◌&&◌, List, [], ◌∷◌, ◌++◌, map, filter, length, drop, take, refl, sym, ap, ◌∙◌, arith}
-use Rattle.std.specs.Prelude.{All, ◌==◌, nat_lt, nat_le, flat_map, codes, decimal, is_some, unwrap_or, Some, None}
-use Rattle.std.specs.List.{list_all, list_any, IsDistinct, join_with_byte}
+use Rattle.std.proofs.Common.{◌≡◌, ℕ, ◌+◌, ◌-◌, ◌≤◌, Bool, true, false, not, ◌&&◌, List, [], ◌∷◌, ◌++◌, map, filter, length, drop, take, refl, ap, ◌∙◌, arith}
+use Rattle.std.specs.Prelude.{All, ◌==◌, nat_lt, flat_map, decimal, is_some, unwrap_or, Some}
+use Rattle.std.specs.List.{list_all, IsDistinct, join_with_byte}
 use Rattle.std.specs.Str.{bytes_eq}
-use Rattle.std.proofs.lemmas.Bool.{and_parts, and_from, cond-true, cond-false, le-ltb, le-leb}
+use Rattle.std.proofs.lemmas.Bool.{and_from, cond-true, cond-false, le-ltb}
 use Rattle.std.proofs.lemmas.List.Elements.{All-nil, All-cons, All-head, All-tail, All-from_recursion}
 use Rattle.std.proofs.lemmas.Map.Keys.{IsDistinct-head, IsDistinct-tail}
 use Rattle.decomposition.specs.declared.Mode.TheVariants.{Interval}
 use Rattle.decomposition.specs.declared.Range.{Range}
 use Rattle.graph_text.specs.Labels.{is_field}
-use Rattle.graph_text.specs.Lines.{are_no_fields, are_hash_fields, are_run_fields, begins_with_hash, fields_of}
-use Rattle.graph_text.specs.Reading.{Line, line_at, numbered_lines, ends_of, last_fields, same_fields, repeats, is_weight, value_of, weight_in, most_weight, range_of, range_in, edge_of, vertex_of, number_of, are_digits, is_count}
+use Rattle.graph_text.specs.Lines.{are_no_fields, are_hash_fields, are_run_fields, begins_with_hash}
+use Rattle.graph_text.specs.Reading.{Line, line_at, numbered_lines, ends_of, last_fields, same_fields, repeats, is_weight, weight_in, most_weight, range_of, range_in, edge_of, vertex_of}
 use Rattle.graph_text.proofs.KindsOfLines.{no_run-content}
 use Rattle.report_reading.proofs.Written.{decimal-field}
 use Rattle.node_weights.specs.SplitText.{NamedEdge, edge_fields}
 use Rattle.node_weights.proofs.SplitNumbers.{spelled-weight}
-use Rattle.node_weights.proofs.SplitFields.{fields-joined, IsReadable, EndsPlain, ends-decimal, ends-joined}
+use Rattle.node_weights.proofs.SplitFields.{fields-joined, IsReadable, ends-decimal, ends-joined}
 
 -- lists from which a filter takes all, or nothing
 pub filter-all : {X : Type 0} (p : X → Bool) (xs : List X) → All (λ x. p x ≡ true) xs → filter p xs ≡ xs

@@ -1,5 +1,5 @@
 -- The edges of the text of a node graph: their lines can be read back, and their names, ends and ranges are those of the split graph.
-use Rattle.std.proofs.Common.{◌≡◌, ℕ, ◌+◌, ◌*◌, ◌<◌, ◌≤◌, Bool, true, false, not, ◌&&◌, ◌||◌, List, [], ◌∷◌, ◌++◌, map, length, take, get_or, Contains, refl, sym, ap, subst, ◌∙◌, arith, true≢false, length-append}
+use Rattle.std.proofs.Common.{◌≡◌, ℕ, ◌+◌, ◌*◌, ◌<◌, ◌≤◌, true, false, not, ◌||◌, List, [], ◌∷◌, ◌++◌, map, length, take, get_or, Contains, refl, sym, ap, subst, ◌∙◌, arith, true≢false, length-append}
 use Rattle.std.specs.Prelude.{All, ◌==◌, flat_map}
 use Rattle.std.specs.List.{list_any, range_with_len, IsDistinct}
 use Rattle.std.specs.Str.{bytes_eq}
@@ -18,7 +18,7 @@ use Rattle.graph_text.specs.Lines.{is_blank}
 use Rattle.graph_text.specs.Reading.{most_weight, distinct, vertex_of, closes_cycle}
 use Rattle.graph_text.proofs.Mentions.{map_agree}
 use Rattle.graph_text.proofs.Places.{map-map}
-use Rattle.node_routes.specs.Split.{vertex_edge, link_edge, just, up_to, heaviest, split_graph, split_ranges}
+use Rattle.node_routes.specs.Split.{vertex_edge, link_edge, just, heaviest, split_graph, split_ranges}
 use Rattle.node_weights.specs.NodeText.{NodeLists}
 use Rattle.node_weights.specs.Kept.{IsNodeGraph}
 use Rattle.node_weights.specs.SplitText.{vertex_graph, name_of, entry_of, exit_of, NamedEdge, named_vertex, named_link, named_edges}

@@ -1,12 +1,12 @@
 -- Lines of which the first is a comment and the others are content lines are one block.
-use Rattle.std.proofs.Common.{◌≡◌, ℕ, ◌+◌, Bool, true, false, not, ◌||◌, ◌&&◌, List, [], ◌∷◌, length, drop, refl, sym, ap, ◌∙◌}
+use Rattle.std.proofs.Common.{◌≡◌, ℕ, ◌+◌, Bool, true, false, not, ◌||◌, ◌&&◌, List, [], ◌∷◌, length, drop, refl, ap, ◌∙◌}
 use Rattle.std.specs.Prelude.{All, take_while}
 use Rattle.std.specs.List.{list_any}
 use Rattle.std.proofs.lemmas.Bool.{cond-true, cond-false, or_left, or_right}
 use Rattle.std.proofs.lemmas.List.Elements.{All-head, All-tail}
 use Rattle.std.proofs.lemmas.List.Sums.{take_while-cons}
 use Rattle.graph_text.specs.Lines.{lines_of, is_blank_line, is_hash_line, is_content_line}
-use Rattle.graph_text.specs.Blocks.{TextBlock, blocks, groups, join_first, is_graph, graphs, lead, numbered}
+use Rattle.graph_text.specs.Blocks.{blocks, groups, join_first, is_graph, graphs, numbered}
 
 -- a content line, which is no `#` line
 pub record IsContentLine (line : List ℕ) : Type 0 where

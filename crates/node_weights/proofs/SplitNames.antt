@@ -1,10 +1,10 @@
 -- The names of entries and exits: each stands once, and by its place it is that of an even or an odd vertex.
-use Rattle.std.proofs.Common.{◌≡◌, ℕ, zero, suc, ◌+◌, ◌*◌, ◌<◌, ◌≤◌, Bool, true, false, not, cond, ◌||◌, ◌&&◌, List, [], ◌∷◌, ◌++◌, map, filter, length, get_or, Contains, refl, sym, ap, ◌∙◌, ⊎_elim, arith, append_assoc}
-use Rattle.std.specs.Prelude.{All, ◌==◌, flat_map}
-use Rattle.std.specs.List.{list_any, position_or_len, IsDistinct}
+use Rattle.std.proofs.Common.{◌≡◌, ℕ, zero, suc, ◌+◌, ◌*◌, ◌<◌, true, false, not, List, [], ◌∷◌, ◌++◌, filter, length, get_or, Contains, refl, sym, ap, ◌∙◌, ⊎_elim, arith, append_assoc}
+use Rattle.std.specs.Prelude.{All}
+use Rattle.std.specs.List.{IsDistinct}
 use Rattle.std.specs.Cmp.Lexicographic.{nat_list_eq_equiv}
 use Rattle.std.specs.Str.{bytes_eq}
-use Rattle.std.proofs.lemmas.Bool.{cases_Bool, cond-true, cond-false, cond_both}
+use Rattle.std.proofs.lemmas.Bool.{cases_Bool}
 use Rattle.std.proofs.lemmas.List.{append-nil}
 use Rattle.std.proofs.lemmas.List.Elements.{All-nil, All-cons, All-head, All-tail, All-weaker, All-from_recursion, recursion_from_All, Contains-append_left, Contains-append_right}
 use Rattle.std.proofs.lemmas.Map.Keys.{IsDistinct-cons, IsDistinct-head, IsDistinct-tail}
@@ -13,7 +13,6 @@ use Rattle.std.proofs.lemmas.Slice.Eq.{bytes_eq-Decides}
 use Rattle.graph_text.specs.Reading.{distinct, vertex_of}
 use Rattle.graph_text.proofs.Mentions.{distinct-push, Contains-distinct}
 use Rattle.graph_text.proofs.Naming.{with_name-there}
-use Rattle.graph_text.proofs.Places.{place_of_contained}
 use Rattle.node_weights.specs.SplitText.{entry_of, exit_of}
 use Rattle.node_weights.specs.SplitLaws.{split_names}
 use Rattle.node_weights.proofs.SplitEdges.{filter-all}

@@ -1,5 +1,5 @@
 -- The digits of a number are a weight, and they are a count.
-use Rattle.std.proofs.Common.{◌≡◌, ℕ, suc, zero, ◌+◌, ◌<◌, ◌≤◌, ◌^◌, Bool, true, false, not, refl, leb, ltb, ◌&&◌, ◌||◌, List, [], ◌∷◌, length, get_or, position, Some, None, sym, ap, ◌∙◌, arith}
+use Rattle.std.proofs.Common.{◌≡◌, ℕ, suc, zero, ◌<◌, ◌≤◌, ◌^◌, true, false, not, refl, leb, ltb, ◌&&◌, ◌||◌, List, [], ◌∷◌, length, get_or, position, Some, None, sym, ap, ◌∙◌, arith}
 use Rattle.std.specs.Prelude.{◌==◌, nat_le, decimal}
 use Rattle.std.specs.List.{position_or_len}
 use Rattle.std.proofs.lemmas.Bool.{and_parts, and_from, cond-true, cond-false, le-leb, leb-true, le-ltb, ne_eqb}
@@ -8,7 +8,7 @@ use Rattle.std.proofs.lemmas.List.Sums.{position_or_len_is}
 use Rattle.graph_text.specs.Lines.{begins_with_hash}
 use Rattle.graph_text.specs.Reading.{are_digits, number_of, weight_in, is_count, most_weight}
 use Rattle.graph_text.proofs.Weights.{weight_in-whole}
-use Rattle.report_reading.specs.LineFields.{begins_with_zero, greatest}
+use Rattle.report_reading.specs.LineFields.{begins_with_zero}
 use Rattle.report_reading.proofs.Taken.{cond-some}
 use Rattle.report_reading.proofs.Spelled.{digits_only, own}
 use Rattle.report_reading.proofs.Written.{number-written}

@@ -1,36 +1,35 @@
 -- The text of a split graph is one block, which the interval model reads as the split graph, unless a line is too long.
 use Rattle.std.proofs.Common.{◌≡◌, ℕ, ◌+◌, ◌*◌, ◌<◌, ◌≤◌, ◌^◌, Bool, true, false, not, ◌&&◌, List, [], ◌∷◌, ◌++◌, map, filter, length, drop, take, refl, sym, ap, subst, ◌∙◌, ⊎_elim, arith, append-nil}
-use Rattle.std.specs.Prelude.{All, ◌==◌, nat_lt, nat_le, flat_map, codes, decimal, Option, Some, None, option_map, Result, Ok, Err}
-use Rattle.std.specs.List.{enumerate_from, list_all, list_any, IsDistinct, join_with_byte}
-use Rattle.std.proofs.lemmas.Bool.{and_from, cond-true, cond-false, cases_Bool, ne_eqb, le-leb}
+use Rattle.std.specs.Prelude.{All, ◌==◌, nat_lt, flat_map, codes, decimal, Option, Some, None, option_map, Ok, Err}
+use Rattle.std.specs.List.{enumerate_from, list_all, join_with_byte}
+use Rattle.std.proofs.lemmas.Bool.{and_from, cond-false, cases_Bool, ne_eqb, le-leb}
 use Rattle.std.proofs.lemmas.List.{drop_all, length-map}
 use Rattle.std.proofs.lemmas.List.FromFn.{length-enumerate_from}
 use Rattle.std.proofs.lemmas.List.Elements.{All-cons, All-head, All-tail, All-weaker, All-map}
 use Rattle.decomposition.specs.declared.Mode.TheVariants.{Interval}
-use Rattle.decomposition.specs.Graph.{IsNet, graph_of, edge_count}
-use Rattle.decomposition.specs.Instance.{Instance}
+use Rattle.decomposition.specs.Graph.{IsNet, graph_of}
 use Rattle.report_terms.specs.declared.refusal.Why.TheVariants.{LongLine, BadCount, BadFields, BadWeight, BadRange, RepeatedEdge, TooManyEdges, TooManyConstraints, ShortConstraint, Cycle, UnknownEdge}
 use Rattle.report_terms.specs.declared.refusal.Refusal.{Refusal}
 use Rattle.graph_text.specs.declared.block.RawGraph.{RawGraph}
-use Rattle.graph_text.specs.Lines.{lines_of, fields_of, are_no_fields, are_hash_fields, are_run_fields, is_content_line, is_hash_line}
+use Rattle.graph_text.specs.Lines.{lines_of, fields_of, are_no_fields, are_hash_fields, are_run_fields}
 use Rattle.graph_text.specs.Labels.{is_field}
-use Rattle.graph_text.specs.Reading.{most_edges, most_constraints, most_bytes, Line, line_at, numbered_lines, filled_lines, content_lines, run_lines, count_lines, edge_lines, listed, ends_of, last_fields, is_weight, is_count, range_of, refused, long_lines, last_filled, bad_counts, repeats, is_short, first_listed, constraint_lines, line_refusals, names_of, edge_of, distinct, raw_graph_of, has_unknown, closes_cycle, cycle_lines, unknown_lines, earlier, earliest, or_else, err_or, refusal_of, read_lines, read, run_of, edges_of, instance_of}
+use Rattle.graph_text.specs.Reading.{most_edges, most_constraints, most_bytes, Line, line_at, numbered_lines, filled_lines, content_lines, run_lines, count_lines, edge_lines, listed, ends_of, last_fields, is_weight, is_count, range_of, refused, last_filled, bad_counts, repeats, is_short, first_listed, constraint_lines, line_refusals, names_of, edge_of, distinct, raw_graph_of, has_unknown, closes_cycle, cycle_lines, unknown_lines, earlier, earliest, or_else, err_or, refusal_of, read_lines, read, run_of, edges_of, instance_of}
 use Rattle.graph_text.specs.Blocks.{blocks}
 use Rattle.graph_text.proofs.Places.{map-map}
 use Rattle.graph_text.proofs.Finishing.{lines_where-none}
 use Rattle.graph_text.proofs.KindsOfLines.{no_run-content}
 use Rattle.report_reading.specs.ReportText.{line}
 use Rattle.report_reading.proofs.Written.{decimal-field}
-use Rattle.node_routes.specs.Split.{split_graph, split_ranges, split_instance}
+use Rattle.node_routes.specs.Split.{split_graph, split_ranges}
 use Rattle.node_routes.proofs.SplitNets.{split_graphs_are_nets}
 use Rattle.node_weights.specs.NodeText.{NodeLists, first}
 use Rattle.node_weights.specs.Kept.{IsNodeGraph}
-use Rattle.node_weights.specs.SplitText.{vertex_graph, NamedEdge, edge_fields, named_edges, split_fields, split_text}
+use Rattle.node_weights.specs.SplitText.{vertex_graph, NamedEdge, edge_fields, named_edges, split_text}
 use Rattle.node_weights.specs.SplitLaws.{split_names, split_lines, split_block, split_raw, is_long, long_refusal, split_reading, SplitTextsAreOneBlock, SplitBlocksAreRead, SplitBlocksAreInstances}
 use Rattle.node_weights.proofs.SplitFields.{IsReadable, fields-joined, lines-line, ends-decimal}
 use Rattle.node_weights.proofs.SplitNumbers.{decimal-no_hash, spelled-count}
-use Rattle.node_weights.proofs.SplitGroups.{IsContentLine, IsCommentLine, blocks-one}
-use Rattle.node_weights.proofs.SplitEdges.{filter-all, filter-none, IsGoodEdge, edge_text, edge-readable, IsEdgeLine, edge-filled, edge-no_hash, edge-no_run, edge-fields, edge-weights, edge-rising, both_ends, numbers_of, range_on, lines_from, edge_lines-each, lines-ends, lines-edges, lines-ranges, lines-once}
+use Rattle.node_weights.proofs.SplitGroups.{IsContentLine, blocks-one}
+use Rattle.node_weights.proofs.SplitEdges.{filter-all, filter-none, IsGoodEdge, edge_text, edge-readable, IsEdgeLine, edge-filled, edge-no_hash, edge-no_run, edge-fields, edge-weights, edge-rising, lines_from, edge_lines-each, lines-ends, lines-edges, lines-ranges, lines-once}
 use Rattle.node_weights.proofs.SplitGraph.{net-closes_none, edges-good, edges-count, names-are, edges-are, ranges-are, edges-once, names-count}
 
 -- a comment line

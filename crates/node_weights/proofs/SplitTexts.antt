@@ -14,7 +14,7 @@ use Rattle.std.specs.Ordering.{nat_cmp, is_lt, is_le, ord_max}
 use Rattle.graph_text.proofs.Places.{map-map}
 use Rattle.node_routes.specs.Split.{heaviest}
 use Rattle.node_weights.specs.NodeText.{NodeLists}
-use Rattle.node_weights.specs.SplitText.{named_vertex, named_link, named_edges, edge_fields, split_fields, split_text}
+use Rattle.node_weights.specs.SplitText.{named_vertex, named_link, edge_fields, split_text}
 
 -- the heaviest with one weight more
 pub heaviest-push : (ws : List ℕ) (w : ℕ) → heaviest (ws ++ w ∷ []) ≡ max (heaviest ws) w

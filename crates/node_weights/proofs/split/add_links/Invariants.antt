@@ -1,5 +1,4 @@
 use Rattle.std.proofs.Common.{◌≡◌, ◌++◌, take}
-use Rattle.node_routes.specs.Split.{heaviest}
 use Rattle.node_weights.proofs.SplitTexts.{link_lines}
 use Rattle.node_weights.proofs.split.add_links.Given as goal
 
