@@ -1,0 +1,5 @@
+pub mod FirstLine
+pub mod Causes
+pub mod Growing
+pub mod Repeats
+pub mod Refusals

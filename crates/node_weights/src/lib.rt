@@ -1,0 +1,11 @@
+//! The reader of node graphs: graphs with a weight on each vertex.
+#![tactic(auto)]
+
+mod draft;
+mod graph;
+mod node_fault;
+mod reader;
+
+pub use graph::NodeGraph;
+pub use node_fault::{NodeFault, NodeWhy};
+pub use reader::read_nodes;
