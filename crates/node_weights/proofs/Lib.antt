@@ -3,3 +3,5 @@ pub mod Causes
 pub mod Growing
 pub mod Repeats
 pub mod Refusals
+pub mod Fields
+pub mod Graphs
