@@ -1,14 +1,14 @@
 -- The cause for which a line is refused, by the kind of the line.
-use Rattle.std.proofs.Common.{◌≡◌, ℕ, Bool, true, false, not, ◌&&◌, List, [], ◌∷◌, length, filter, Option, Some, None, refl, sym, ap, ◌∙◌, ⊎_elim}
+use Rattle.std.proofs.Common.{◌≡◌, ℕ, Bool, true, false, not, ◌&&◌, List, [], ◌∷◌, length, filter, Option, Some, None, refl, sym, ap, ◌∙◌}
 use Rattle.std.specs.Prelude.{◌==◌, nat_lt, option_map, codes, get_or}
 use Rattle.std.specs.Str.{bytes_eq}
-use Rattle.std.proofs.lemmas.Bool.{cases_Bool, and_left, and_right, and_parts, and_from, not-true, not-false, false_from_ne_true, true≢false}
+use Rattle.std.proofs.lemmas.Bool.{and_left, and_right, and_from, not-false, false_from_ne_true, true≢false}
 use Rattle.std.proofs.lemmas.Slice.Eq.{bytes_eq-Decides}
-use Rattle.graph_text.specs.Lines.{fields_of, are_no_fields, are_hash_fields, begins_with_hash, is_blank_line, is_hash_line, is_content_line}
+use Rattle.graph_text.specs.Lines.{fields_of, are_no_fields, are_hash_fields, begins_with_hash, is_blank_line, is_content_line}
 use Rattle.graph_text.specs.Reading.{most_bytes, is_weight}
 use Rattle.node_weights.specs.declared.node_fault.NodeWhy.{NodeWhy}
 use Rattle.node_weights.specs.declared.node_fault.NodeWhy.TheVariants.{LongLine, BadLine, BadWeight, RepeatedNode, UnknownNode, RepeatedEdge, TooMany}
-use Rattle.node_weights.specs.NodeText.{most_lines, is_word_and_two, is_node_line, is_edge_line, content_lines, second, third, has_node, has_edge, first, causes, cause_after}
+use Rattle.node_weights.specs.NodeText.{most_lines, is_word_and_two, is_node_line, is_edge_line, content_lines, second, third, has_node, has_edge, first, cause_after}
 use Rattle.node_weights.specs.Draft.{HasFields}
 
 -- of seven causes the first that is there

@@ -1,14 +1,14 @@
 -- The graph of a draft, and the places of its edges among the lines.
-use Rattle.std.proofs.Common.{◌≡◌, ℕ, suc, ◌+◌, ◌≤◌, ◌==◌, Bool, true, false, List, [], ◌∷◌, map, filter, length, get_or, Option, Some, None, Ok, cond, leb, refl, sym, ap, subst, ◌∙◌, ⊎_elim, arith}
+use Rattle.std.proofs.Common.{◌≡◌, ℕ, suc, ◌+◌, ◌≤◌, ◌==◌, true, false, List, [], ◌∷◌, filter, length, get_or, Some, None, leb, refl, sym, ap, subst, ◌∙◌, ⊎_elim, arith}
 use Rattle.std.specs.Prelude.{All, ◌&&◌, unwrap_or}
 use Rattle.std.specs.List.{enumerate_from, before_first}
-use Rattle.std.proofs.lemmas.Bool.{cases_Bool, cond-true, cond-false, and_parts, cond_both, leb-true}
+use Rattle.std.proofs.lemmas.Bool.{cases_Bool, cond-true, cond-false, and_parts, leb-true}
 use Rattle.std.proofs.lemmas.List.{length-map}
 use Rattle.std.proofs.lemmas.List.Elements.{All-map}
-use Rattle.decomposition.specs.Graph.{Graph, graph_of}
-use Rattle.graph_text.specs.Reading.{weight_in, value_of, number_of, is_weight_form, most_weight}
+use Rattle.decomposition.specs.Graph.{graph_of}
+use Rattle.graph_text.specs.Reading.{value_of, number_of, is_weight_form, most_weight}
 use Rattle.node_weights.specs.declared.draft.NodeDraft.{NodeDraft}
-use Rattle.node_weights.specs.NodeText.{NodeLists, is_edge_line, edge_lines, node_lines, names_on, weights_on, edge_on, edges_on, edge_numbers, second, third, net_of, graph_on}
+use Rattle.node_weights.specs.NodeText.{is_edge_line, edge_lines, node_lines, names_on, edge_on, second, third, net_of, graph_on}
 use Rattle.node_weights.specs.Draft.{HoldsLines}
 
 -- a value is no greater than a weight may be

@@ -1,8 +1,7 @@
 -- What a draft holds after one more line.
-use Rattle.std.proofs.Common.{◌≡◌, ℕ, ◌+◌, Bool, true, false, List, [], ◌∷◌, ◌++◌, map, length, filter, get_or, Contains, refl, sym, ap, subst, ◌∙◌, arith}
+use Rattle.std.proofs.Common.{◌≡◌, ℕ, ◌+◌, Bool, true, false, List, [], ◌∷◌, ◌++◌, map, length, filter, get_or, Contains, sym, ap, subst, ◌∙◌, arith}
 use Rattle.std.specs.Prelude.{All, codes}
 use Rattle.std.specs.List.{enumerate_from}
-use Rattle.std.specs.Str.{bytes_eq}
 use Rattle.std.proofs.lemmas.Bool.{cond-true, cond-false}
 use Rattle.std.proofs.lemmas.List.{append-nil, map_push, length_push}
 use Rattle.std.proofs.lemmas.List.Elements.{All-push, All-weaker, Contains-append_left, filter-append}
@@ -174,8 +173,10 @@ module _ (lines : List (List ℕ)) (line tail head : List ℕ) (fields : fields_
       let names : after.labels.names ≡ draft.labels.names = ap (λ (l : LabelLists). l.names) labels in
       let edges : after.labels.edges ≡ draft.labels.edges ++ edge ∷ [] = ap (λ (l : LabelLists). l.edges) labels in
       let edge_is : ◌≡◌ {A = ℕ × ℕ} edge (edge_on (names_on lines) line) =
-      λ i. ((among.tail_is ∙ (λ j. vertex_of (holds.names j) (sym (edge-kinds line tail head fields).3 j))) i,
-      (among.head_is ∙ (λ j. vertex_of (holds.names j) (sym (edge-kinds line tail head fields).4 j))) i) in
+      λ i. (
+        (among.tail_is ∙ (λ j. vertex_of (holds.names j) (sym (edge-kinds line tail head fields).3 j))) i,
+        (among.head_is ∙ (λ j. vertex_of (holds.names j) (sym (edge-kinds line tail head fields).4 j))) i,
+      ) in
       record {
         names = names ∙ holds.names ∙ sym names-same;
         weights = weights ∙ holds.weights ∙ ap (λ ls. map (λ l. value_of (third l)) ls) (sym nodes-same);
@@ -189,7 +190,8 @@ module _ (lines : List (List ℕ)) (line tail head : List ℕ) (fields : fields_
             omega (arith, holds.counted);
         known = subst (λ ls. All (KnownBy (names_on with_edge)) ls) (sym edges-more)
             (subst (λ ns. All (KnownBy ns) (edge_lines lines ++ line ∷ [])) (sym names-same)
-            (All-push (KnownBy (names_on lines)) (edge_lines lines) line holds.known
-            (subst (Contains (names_on lines)) (sym (edge-kinds line tail head fields).3) (subst (λ ns. Contains ns tail) holds.names among.tail_there),
-            subst (Contains (names_on lines)) (sym (edge-kinds line tail head fields).4) (subst (λ ns. Contains ns head) holds.names among.head_there))));
+            (All-push (KnownBy (names_on lines)) (edge_lines lines) line holds.known (
+              subst (Contains (names_on lines)) (sym (edge-kinds line tail head fields).3) (subst (λ ns. Contains ns tail) holds.names among.tail_there),
+              subst (Contains (names_on lines)) (sym (edge-kinds line tail head fields).4) (subst (λ ns. Contains ns head) holds.names among.head_there),
+            )));
       }

@@ -1,5 +1,5 @@
 -- The first refusal of a text, from the lines before it, and the refusal for the first edge that closes a cycle.
-use Rattle.std.proofs.Common.{◌≡◌, ℕ, zero, suc, ◌+◌, ◌<◌, ◌≤◌, List, [], ◌∷◌, ◌++◌, map, length, take, filter, get_or, Bool, true, false, Option, Some, None, Result, Ok, Err, refl, sym, ap, subst, ◌∙◌, ⊎_elim, arith, append_assoc, length-append}
+use Rattle.std.proofs.Common.{◌≡◌, ℕ, zero, suc, ◌+◌, ◌<◌, ◌≤◌, List, [], ◌∷◌, ◌++◌, map, length, take, filter, get_or, Bool, true, false, Option, Some, None, Ok, Err, refl, sym, ap, subst, ◌∙◌, ⊎_elim, arith, append_assoc, length-append}
 use Rattle.std.specs.Prelude.{filter_map, option_map, slice_index}
 use Rattle.std.specs.List.{cons_option}
 use Rattle.std.proofs.lemmas.Bool.{cond-true, cond-false, false_from_ne_true, cases_lt}
@@ -13,7 +13,7 @@ use Rattle.graph_text.specs.Reading.{closes_cycle}
 use Rattle.node_weights.specs.declared.draft.NodeDraft.{NodeDraft}
 use Rattle.node_weights.specs.declared.node_fault.NodeWhy.{NodeWhy}
 use Rattle.node_weights.specs.declared.node_fault.NodeWhy.TheVariants.{Cycle}
-use Rattle.node_weights.specs.NodeText.{NodeLists, Refusal, first, cause_after, refusal_at, line_refusals, edge_numbers, net_of, graph_on, cycle_refusals, err_or, read_lines, read}
+use Rattle.node_weights.specs.NodeText.{first, cause_after, refusal_at, line_refusals, edge_numbers, net_of, graph_on, cycle_refusals, err_or, read_lines, read}
 use Rattle.node_weights.specs.Draft.{HoldsLines, HoldsAll, Takes}
 
 -- what a function gives of the numbers below n, where it gives nothing, and where it first gives something

@@ -1,9 +1,9 @@
 -- What the labels of a draft say of names and edges on its lines.
-use Rattle.std.proofs.Common.{◌≡◌, ℕ, ◌<◌, Bool, true, false, not, ◌&&◌, ◌||◌, List, [], ◌∷◌, map, length, get_or, Contains, Option, Some, None, refl, sym, ap, subst, ◌∙◌, ⊎_elim}
+use Rattle.std.proofs.Common.{◌≡◌, ℕ, ◌<◌, Bool, true, false, not, ◌&&◌, ◌||◌, List, [], ◌∷◌, length, get_or, Contains, Some, None, refl, sym, ap, subst, ◌∙◌, ⊎_elim}
 use Rattle.std.specs.Prelude.{All, ◌==◌, codes}
 use Rattle.std.specs.List.{list_any}
 use Rattle.std.specs.Str.{bytes_eq}
-use Rattle.std.proofs.lemmas.Bool.{cases_Bool, and_parts, eqb-true, eq-eqb, false_from_ne_true, true≢false}
+use Rattle.std.proofs.lemmas.Bool.{cases_Bool, eqb-true, eq-eqb, false_from_ne_true, true≢false}
 use Rattle.std.proofs.lemmas.List.Elements.{All-head, All-tail, All-weaker}
 use Rattle.std.proofs.lemmas.Map.Made.{is_member-Decides}
 use Rattle.std.proofs.lemmas.Slice.Eq.{bytes_eq-Decides}
@@ -13,7 +13,6 @@ use Rattle.graph_text.specs.Labels.{LabelLists}
 use Rattle.graph_text.specs.Reading.{is_weight, vertex_of}
 use Rattle.graph_text.proofs.Places.{list_any-map, place_of_contained}
 use Rattle.node_weights.specs.declared.draft.NodeDraft.{NodeDraft}
-use Rattle.node_weights.specs.declared.node_fault.NodeWhy.{NodeWhy}
 use Rattle.node_weights.specs.declared.node_fault.NodeWhy.TheVariants.{BadWeight, RepeatedNode, UnknownNode, RepeatedEdge, TooMany}
 use Rattle.node_weights.specs.NodeText.{edge_lines, names_on, edge_on, edges_on, second, third, has_node, has_edge, cause_after}
 use Rattle.node_weights.specs.Draft.{HoldsLines, IsEdgeAmong, HasFields}

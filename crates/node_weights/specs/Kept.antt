@@ -1,5 +1,5 @@
 -- What a node graph keeps, and what its fields stand for.
-use Rattle.std.specs.Prelude.{◌≡◌, ℕ, ◌+◌, ◌≤◌, length, All}
+use Rattle.std.specs.Prelude.{◌≡◌, ◌+◌, ◌≤◌, length, All}
 use Rattle.decomposition.specs.Graph.{IsNet}
 use Rattle.graph_text.specs.Labels.{AreLabels}
 use Rattle.graph_text.specs.Reading.{most_weight}

@@ -10,8 +10,8 @@ ghost use Rattle.node_weights.specs.NodeText.{most_lines, content_lines, has_nod
 use crate::graph::NodeGraph;
 use crate::node_fault::{LineFault, NodeFault, NodeWhy};
 use dag_net::{BuildFault, Net};
-use graph_text::fields::{fields, is_blank_text, is_hash_text, parse_weight};
 use graph_text::Labels;
+use graph_text::fields::{fields, is_blank_text, is_hash_text, parse_weight};
 use std::alloc::{AllocError, Global};
 
 /// The most bytes that a line may have.

@@ -1,4 +1,4 @@
-use Rattle.std.proofs.Common.{◌≡◌, ◌+◌, ◌-◌, ◌∙◌, length, take, drop, refl, ap, arith}
+use Rattle.std.proofs.Common.{◌≡◌, ◌+◌, ◌-◌, ◌∙◌, length, take, drop, refl, ap}
 use Rattle.std.proofs.lemmas.List.{take_rest, drop_min}
 use Rattle.node_weights.proofs.FirstLine.{lines-split, line-no_feed}
 use Rattle.node_weights.proofs.reader.split_line.Goals as goal

@@ -1,4 +1,4 @@
-use Rattle.std.proofs.Common.{◌≡◌, ◌&&◌, true, false, sym, ap, ◌∙◌}
+use Rattle.std.proofs.Common.{◌&&◌, sym, ◌∙◌}
 use Rattle.std.proofs.lemmas.Bool.{iff_false, and_parts, and_from, false_from_ne_true}
 use Rattle.node_weights.specs.NodeText.{has_node}
 use Rattle.node_weights.proofs.Repeats.{named, is_named, has-edge, has-no_edge, ends-within, edge-unknown, edge-repeated, edge-many, edge-none}

@@ -1,10 +1,7 @@
-use Rattle.std.proofs.Common.{◌≡◌, true, false, sym, ap, ◌∙◌}
+use Rattle.std.proofs.Common.{◌≡◌, sym, ap, ◌∙◌}
 use Rattle.std.proofs.lemmas.Bool.{iff_false}
 use Rattle.std.specs.Option.{is_some, unwrap_or}
-use Rattle.graph_text.specs.Lines.{fields_of}
-use Rattle.graph_text.specs.Reading.{is_weight, value_of}
-use Rattle.node_weights.specs.NodeText.{third}
-use Rattle.std.specs.Prelude.{slice_index_or, [], List, ℕ}
+use Rattle.graph_text.specs.Reading.{value_of}
 use Rattle.node_weights.proofs.Repeats.{named, unnamed, node-weight, node-repeated, node-many, node-none}
 use Rattle.node_weights.proofs.draft.NodeDraft.add_node.Goals as goal
 
