@@ -5,6 +5,7 @@ ghost use Rattle.std.specs.List.{list_any};
 ghost use Rattle.graph_text.specs.Labels.{is_field};
 ghost use Rattle.graph_text.specs.Lines.{fields_of};
 ghost use Rattle.graph_text.specs.Reading.{value_of};
+ghost use Rattle.node_weights.specs.Kept.{IsNodeGraph};
 ghost use Rattle.node_weights.specs.NodeText.{most_lines, content_lines, has_node, read_lines, cause_after, RefusesAs};
 
 use crate::graph::NodeGraph;
@@ -185,6 +186,7 @@ impl NodeDraft {
     pub fn into_graph(self, alloc: Global) -> Result<NodeGraph, NodeFault>
         requires { (lines : List (List ℕ)) × HoldsAll lines self }
         ensures ok { IfOk result (λ graph. (lines : List (List ℕ)) → HoldsAll lines self → read_lines lines ≡ Ok graph) }
+        ensures sound { IfOk result IsNodeGraph }
         ensures err { IfErr result (λ fault. (lines : List (List ℕ)) → HoldsAll lines self → RefusesAs (read_lines lines) fault) }
     {
         let vertices = self.labels.vertices() as u32;

@@ -3,6 +3,7 @@ ghost use Rattle.std.specs.Prelude.{◌≡◌, ◌==◌, ◌+◌, ◌<◌, ◌�
 ghost use Rattle.std.specs.List.{list_any, position_or_len};
 ghost use Rattle.graph_text.specs.Lines.{lines_of, without_return};
 ghost use Rattle.node_weights.specs.Draft.{HoldsLines, HoldsAll, Takes};
+ghost use Rattle.node_weights.specs.Kept.{IsNodeGraph};
 ghost use Rattle.node_weights.specs.NodeText.{read, cause_after, RefusesAs};
 
 use crate::draft::NodeDraft;
@@ -69,8 +70,9 @@ fn read_lines(alloc: Global, text: &[u8]) -> Result<NodeDraft, NodeFault>
 /// The node graph of a text: its vertices are numbered in the order of their lines, and its edges are in the order of theirs.
 /// Takes time linear in the text, and memory for the graph and one line.
 pub fn read_nodes(alloc: Global, text: &[u8]) -> Result<NodeGraph, NodeFault>
-    ensures graph { IfOk result (λ graph. read text.now ≡ Ok graph) }
-    ensures refused { IfErr result (RefusesAs (read text.now)) }
+    ensures ok { IfOk result (λ graph. read text.now ≡ Ok graph) }
+    ensures sound { IfOk result IsNodeGraph }
+    ensures err { IfErr result (RefusesAs (read text.now)) }
 {
     let draft = read_lines(alloc, text)?;
     draft.into_graph(alloc)

@@ -8,12 +8,15 @@ use Rattle.dag_net.specs.Build.{FollowsNet, ClosesCycle}
 use Rattle.graph_text.proofs.Finishing.{no_repeated}
 use Rattle.node_weights.proofs.Graphs.{weights-count, weights-small, numbers-edges, net-is, graph-is}
 use Rattle.node_weights.proofs.Refusals.{read-graph, read-cycle}
+use Rattle.node_weights.specs.Kept.{IsNodeGraph}
 use Rattle.node_weights.specs.NodeText.{edge_numbers}
 use Rattle.node_weights.specs.declared.node_fault.NodeWhy.TheVariants.{Cycle}
 use Rattle.node_weights.proofs.draft.NodeDraft.into_graph.Goals as goal
+use Rattle.node_weights.proofs.draft.NodeDraft.into_graph.Goals.{In-Ok}
 
-pub invariant_of-result : goal.invariant_of-result
-invariant_of-result c =
+-- the graph of the draft, where its edges make a net
+graph_of_draft : (c : In-Ok) → IsNodeGraph (record { names = c.args.self.labels.names; weights = c.args.self.weights.items; edges = c.args.self.labels.edges })
+graph_of_draft c =
     let held = c.requires.1.holds in
     record {
       labels = c.edges.ensures.labels;
@@ -22,6 +25,12 @@ invariant_of-result c =
       acyclic = subst IsNet (c.in-Ok.ensures.net ∙ (λ i. graph_of (c.vertices-vertices.ensures.vertices i) (c.edges.ensures.edges i))) c.in-Ok.ensures.sound;
       few = c.args.self.few;
     }
+
+pub invariant_of-result : goal.invariant_of-result
+invariant_of-result c = graph_of_draft c
+
+pub returns-in-Ok-clause-sound : goal.returns-in-Ok-clause-sound
+returns-in-Ok-clause-sound c = graph_of_draft (goal.at.returns-in-Ok-clause-sound c).In-Ok
 
 pub returns-in-Ok-clause-ok : goal.returns-in-Ok-clause-ok
 returns-in-Ok-clause-ok c = λ lines all.
