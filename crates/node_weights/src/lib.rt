@@ -5,7 +5,9 @@ mod draft;
 mod graph;
 mod node_fault;
 mod reader;
+mod route;
 
 pub use graph::NodeGraph;
 pub use node_fault::{NodeFault, NodeWhy};
 pub use reader::read_nodes;
+pub use route::route_of;
