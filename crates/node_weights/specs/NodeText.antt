@@ -74,7 +74,7 @@ has_node lines name = list_any (bytes_eq name) (names_on lines)
 abbrev pub has_edge : List (List ℕ) → List ℕ → List ℕ → Bool
 has_edge lines tail head = list_any (λ line. bytes_eq tail (second line) && bytes_eq head (third line)) (edge_lines lines)
 
--- the causes 1 to 7 in this order, and whether a line has them after these lines
+-- the causes for which a line is refused, in the order in which they count on it, and whether it has them after these lines
 abbrev pub causes : List (List ℕ) → List ℕ → List (NodeWhy × Bool)
 causes before line =
     (LongLine, not (is_blank_line line) && nat_lt most_bytes (length line))
@@ -86,11 +86,12 @@ causes before line =
     ∷ (TooMany, is_content_line line && (length (content_lines before) == most_lines))
     ∷ []
 
+-- the first of a list, if it has one
 abbrev pub first : {X : Type 0} → List X → Option X
 first [] = None
 first (x ∷ xs) = Some x
 
--- of the causes that a line has after these lines the one that stands first
+-- of the causes that a line has after these lines the first
 unfoldable pub cause_after : List (List ℕ) → List ℕ → Option NodeWhy
 cause_after before line = option_map (λ cause. cause.0) (first (filter (λ cause. cause.1) (causes before line)))
 
