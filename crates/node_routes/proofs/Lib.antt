@@ -1,0 +1,4 @@
+pub mod Splitting
+pub mod Corresponding
+pub mod Explaining
+pub mod SplitNets
