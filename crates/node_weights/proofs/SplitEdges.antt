@@ -56,7 +56,6 @@ edge-readable e is =
       ends = ends-joined (e.tail ∷ e.head ∷ decimal e.least ∷ []) (decimal e.most) (ends-decimal e.most (omega arith));
     }
 
-
 -- a line of the fields of an edge
 pub record IsEdgeLine (l : Line) : Type 0 where
   pub edge : NamedEdge

@@ -102,6 +102,7 @@ Contains-split [] name (k, within, is) = absurd (omega (arith, within))
 Contains-split (n ∷ names) name (zero, within, is) =
     ((0, omega arith, ap entry_of is), (1, omega arith, ap exit_of is))
 Contains-split (n ∷ names) name (suc k, within, is) =
-    let rest = Contains-split names name (k, omega (arith, within), is) in
-    (Contains-append_right (entry_of n ∷ exit_of n ∷ []) (split_names names) (entry_of name) rest.0,
-    Contains-append_right (entry_of n ∷ exit_of n ∷ []) (split_names names) (exit_of name) rest.1)
+    let rest = Contains-split names name (k, omega (arith, within), is) in (
+      Contains-append_right (entry_of n ∷ exit_of n ∷ []) (split_names names) (entry_of name) rest.0,
+      Contains-append_right (entry_of n ∷ exit_of n ∷ []) (split_names names) (exit_of name) rest.1,
+    )

@@ -43,4 +43,20 @@ impl NodeGraph {
     {
         self.labels.name(v)
     }
+
+    /// The weights of the vertices, by number.
+    pub(crate) fn weights(&self) -> &[u64]
+        ensures weights { result.now ≡ self.now.weights }
+        ensures graph { IsNodeGraph self.now }
+    {
+        self.weights.as_slice()
+    }
+
+    /// The tail and the head of each edge, in order.
+    pub(crate) fn edges(&self) -> &[(u32, u32)]
+        ensures edges { result.now ≡ self.now.edges }
+        ensures graph { IsNodeGraph self.now }
+    {
+        self.labels.edges()
+    }
 }

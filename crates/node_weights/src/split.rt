@@ -10,26 +10,6 @@ use flow_io::Bytes;
 use std::alloc::{AllocError, Global};
 use text_lines::add_line;
 
-impl NodeGraph {
-    ghost use Rattle.node_weights.specs.Kept.{IsNodeGraph};
-
-    /// The weights of the vertices, by number.
-    pub(crate) fn weights(&self) -> &[u64]
-        ensures weights { result.now ≡ self.now.weights }
-        ensures graph { IsNodeGraph self.now }
-    {
-        self.weights.as_slice()
-    }
-
-    /// The tail and the head of each edge, in order.
-    pub(crate) fn edges(&self) -> &[(u32, u32)]
-        ensures edges { result.now ≡ self.now.edges }
-        ensures graph { IsNodeGraph self.now }
-    {
-        self.labels.edges()
-    }
-}
-
 /// The greatest of 1 and all weights.
 fn heaviest(weights: &[u64]) -> u64
     ensures { result ≡ heaviest weights.now }
@@ -61,7 +41,12 @@ fn add_count(alloc: Global, text: &mut Vec<u8>, graph: &NodeGraph) -> Result<(),
 }
 
 /// Adds the line of the edge of a vertex.
-fn add_vertex(alloc: Global, text: &mut Vec<u8>, graph: &NodeGraph, v: u32) -> Result<(), AllocError>
+fn add_vertex(
+    alloc: Global,
+    text: &mut Vec<u8>,
+    graph: &NodeGraph,
+    v: u32,
+) -> Result<(), AllocError>
     requires { v < length graph.now.names }
     ensures { OnOk result (text.new.items ≡ text.old.items ++ line (edge_fields (named_vertex graph.now v))) }
 {
