@@ -28,7 +28,7 @@ pub record NamedEdge : Type 0 where
   pub least : ℕ
   pub most : ℕ
 
--- the edge of a vertex, and the edge that an edge becomes where so much is the heaviest
+-- the edge of a vertex, whose paths weigh just as much as the vertex, and the edge that an edge becomes
 abbrev pub named_vertex : NodeLists → ℕ → NamedEdge
 named_vertex g v = let weight = slice_index g.weights v in
     record { tail = entry_of (name_of g v); head = exit_of (name_of g v); least = weight; most = weight }
@@ -48,6 +48,6 @@ edge_fields e = e.tail ∷ e.head ∷ decimal e.least ∷ decimal e.most ∷ []
 abbrev pub split_fields : NodeLists → List (List (List ℕ))
 split_fields g = (codes "#" ∷ codes "nodes" ∷ []) ∷ (decimal (2 * length g.names) ∷ []) ∷ map edge_fields (named_edges g)
 
--- the text
+-- the text: the lines of these fields, each ended by a line feed
 unfoldable pub split_text : NodeLists → List ℕ
 split_text g = flat_map line (split_fields g)

@@ -2,6 +2,7 @@
 ghost use Rattle.std.specs.Prelude.{◌≡◌, ◌++◌, codes, [], ◌∷◌, Ok, Err, replicate};
 ghost use Rattle.node_weights.specs.declared.node_fault.NodeWhy.TheVariants.{LongLine, BadLine, BadWeight, RepeatedNode, UnknownNode, RepeatedEdge, Cycle};
 ghost use Rattle.node_weights.specs.NodeText.{read};
+ghost use Rattle.node_weights.specs.SplitText.{split_text};
 
 /// Texts are read as node graphs.
 pub fn node_texts_are_read()
@@ -31,4 +32,13 @@ pub fn first_refusals_count()
     ensures first_cause { read (codes "node a 1\nnode a x\n") ≡ Err (2, BadWeight) }
     ensures long { read (codes "#" ++ replicate 65536 97) ≡ Err (1, LongLine) }
     ensures blank { read (replicate 65537 32 ++ codes "\nnode\n") ≡ Err (2, BadLine) }
+{}
+
+/// Node graphs have these texts of their split graphs.
+pub fn node_graphs_are_split()
+    ensures tree { split_text (record { names = codes "a" ∷ codes "b" ∷ codes "c" ∷ []; weights = 5 ∷ 3 ∷ 2 ∷ []; edges = (0, 1) ∷ (0, 2) ∷ [] })
+        ≡ codes "# nodes\n6\nia oa 5 5\nib ob 3 3\nic oc 2 2\noa ib 0 5\noa ic 0 5\n" }
+    ensures weightless { split_text (record { names = codes "a" ∷ codes "b" ∷ []; weights = 0 ∷ 0 ∷ []; edges = (1, 0) ∷ [] })
+        ≡ codes "# nodes\n4\nia oa 0 0\nib ob 0 0\nob ia 0 1\n" }
+    ensures empty { split_text (record { names = []; weights = []; edges = [] }) ≡ codes "# nodes\n0\n" }
 {}

@@ -10,7 +10,7 @@ mod reader;
 mod route;
 mod split;
 
-pub use examples::{first_refusals_count, node_texts_are_read};
+pub use examples::{first_refusals_count, node_graphs_are_split, node_texts_are_read};
 pub use graph::NodeGraph;
 pub use node_fault::{NodeFault, NodeWhy};
 pub use reader::read_nodes;
