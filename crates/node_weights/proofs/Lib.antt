@@ -1,0 +1,15 @@
+pub mod FirstLine
+pub mod Causes
+pub mod Growing
+pub mod Repeats
+pub mod Refusals
+pub mod Fields
+pub mod Graphs
+pub mod SplitTexts
+pub mod SplitFields
+pub mod SplitNumbers
+pub mod SplitGroups
+pub mod SplitEdges
+pub mod SplitNames
+pub mod SplitGraph
+pub mod SplitReads

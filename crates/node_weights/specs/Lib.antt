@@ -1,0 +1,5 @@
+pub mod NodeText
+pub mod Draft
+pub mod Kept
+pub mod SplitText
+pub mod SplitLaws
