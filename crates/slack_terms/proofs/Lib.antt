@@ -1,0 +1,5 @@
+pub mod Bounds
+pub mod Keeps
+pub mod Root
+pub mod Antichains
+pub mod Examples
