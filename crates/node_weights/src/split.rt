@@ -1,5 +1,5 @@
 //! The text of the split graph: each vertex becomes an edge from its entry to its exit.
-ghost use Rattle.std.specs.Prelude.{◌≡◌, ◌<◌, ℕ, ◌*◌, List, [], ◌∷◌, ◌++◌, length, map, flat_map, codes, decimal, IfOk, OnOk};
+ghost use Rattle.std.specs.Prelude.{◌≡◌, ◌<◌, ◌*◌, [], ◌∷◌, ◌++◌, length, map, flat_map, decimal, IfOk, OnOk};
 ghost use Rattle.std.specs.List.{range_with_len};
 ghost use Rattle.report_reading.specs.ReportText.{line};
 ghost use Rattle.node_routes.specs.Split.{heaviest};
