@@ -8,7 +8,8 @@ changed, left out, doubled, exchanged, cut off, or pieces of other texts stand a
 looks at with what was written; a report, which FLOWCHECK looks at with the graph; and a report that is given to FLOWPATHS as a graph. Each run has to
 end with a status that docs/FORMATS.md states for it, and both programs have to say what claims.py reads: which blocks are refused, where and why; of
 every report that is written, and of every `yes`, that paths, sums, antichains, cuts, crowds, tokens and safe runs are as claimed; and of every `no` the
-line. The same words make the same trials. The last line has the counts, and the status is 1 where one failed; a trial that failed is printed.
+line. The same words make the same trials. The last line has the counts, of what was done so far where it is interrupted, and the status is 1 where a
+trial failed; such a trial is printed.
 """
 import argparse
 import random
@@ -181,13 +182,17 @@ def main():
     asked.add_argument("--seed", type=int, default=1)
     options = asked.parse_args()
     trials = Trials(options)
-    for place in range(options.count):
-        trials.trial(place)
+    done = 0
+    try:
+        for done in range(1, options.count + 1):
+            trials.trial(done)
+    except KeyboardInterrupt:
+        done -= 1
     for kind, times in sorted(trials.counts.items()):
         print(kind, times)
     peak = resource.getrusage(resource.RUSAGE_CHILDREN).ru_maxrss / 1000
     print(f"longest run: flowpaths {trials.worst['flowpaths']:.3f} s, flowcheck {trials.worst['flowcheck']:.3f} s; at most {peak:.0f} MB")
-    print(f"{options.count - trials.failed} passed, {trials.failed} failed")
+    print(f"{done - trials.failed} passed, {trials.failed} failed")
     return 1 if trials.failed else 0
 
 

@@ -1,16 +1,23 @@
 #!/usr/bin/env python3
 """Runs with less and less memory: whatever growth is refused, both programs end as stated.
 
-    growths.py FLOWPATHS FLOWCHECK [--runs N] [--try]
+    growths.py FLOWPATHS FLOWCHECK [--runs N]
 
-looks for the least address space with which each program starts, and for the least with which it does the whole of each case: rows with constraints and
-with errors, long names, many graphs, a graph of some 216 edges with 20,000 tokens, long constraints, and the reports on them. Between these two it runs
-the case N times, 200 where nothing is said, with limits that rise by equal steps. Each run has to end with the whole output and its status, or with
-status 5, the line `out of memory`, and the whole reports, or lines, of some first graphs. With `--try` each allocation of the first rows is refused
-besides, one at a time, by `rt try --fail-alloc` in the folders of both programs, which takes some minutes. The last line has the counts, and the status
-is 1 where a run failed.
+has cases: rows with constraints and with errors, safe runs, long names, many graphs, long constraints, many tokens, a long search on a graph of some 216
+edges, and the reports on them. Of each it does two things.
+
+    calls    each call for memory is refused in turn, the first one, the second one and so on, until a run makes no such call. A library that a C
+             compiler makes of refuse.c stands between the program and the system for that.
+    limits   the case runs N times, 200 where nothing is said, with limits of data (`ulimit -d`) that rise by equal steps, from the least with which the
+             system starts the program up to the least with which it does the whole. A limit of address space (`ulimit -v`) would hold for the stack
+             too, and where that cannot grow the system ends a program by a signal.
+
+Each run has to end with the whole output and its status, or with status 5, the line `out of memory`, and the whole reports, or lines, of some first
+graphs. The last line has the counts, and the status is 1 where a run failed.
 """
 import argparse
+import itertools
+import os
 import random
 import resource
 import signal
@@ -26,7 +33,8 @@ from hostile import layers, long_names, text_of, through
 PAGE = 4096
 PLENTY = 2**32
 SECONDS = 60
-CRATES = Path(__file__).parent.parent / "crates"
+STATUSES = range(7)
+REFUSE = Path(__file__).with_name("refuse.c")
 RULED = b"# diamonds\n#S b m c\n#S b m d\n#S b m c\n7\ns a 5\na m 5\ns b 2\nb m 2\nm c 4\nc t 4\nm d 3\nd t 3\n"
 UNEQUAL = b"# x\n3\ns a 3\na t 5\n"
 
@@ -47,14 +55,24 @@ def cases():
     yield "many tokens", ["--nodes", "1000000"], RULED
 
 
-def run(command, text, space):
-    """Runs a command with so many bytes of address space; its output, its standard error and its status, which is none where it hangs."""
-    limited = partial(resource.setrlimit, resource.RLIMIT_AS, (space, space))
+def run(command, text, space=PLENTY, **more):
+    """Runs a command with so many bytes of data; its output, its standard error and its status, which is none where it hangs."""
+    limited = partial(resource.setrlimit, resource.RLIMIT_DATA, (space, space))
     try:
-        done = subprocess.run(command, input=text, capture_output=True, preexec_fn=limited, check=False, timeout=SECONDS)
+        done = subprocess.run(command, input=text, capture_output=True, preexec_fn=limited, check=False, timeout=SECONDS, **more)
     except subprocess.TimeoutExpired:
         return b"", b"", None
     return done.stdout, done.stderr, done.returncode
+
+
+def run_refusing(library, command, text, call):
+    """Runs a command of which a call for memory is refused, counted from 1, and says whether it made that call."""
+    told, tell = os.pipe()
+    with open(told, "rb") as told, open(tell, "wb") as tell:
+        words = {"LD_PRELOAD": str(library), "REFUSED_CALL": str(call), "REFUSED_PIPE": str(tell.fileno())}
+        ran = run(command, text, env=words, pass_fds=[tell.fileno()])
+        tell.close()
+        return ran, told.read() != b""
 
 
 def least_space(is_enough):
@@ -87,36 +105,51 @@ def fault_of(ran, whole, firsts, name):
 
 
 class Growths:
-    def __init__(self, runs):
-        self.runs, self.passed, self.failed = runs, 0, 0
+    def __init__(self, runs, library):
+        self.runs, self.library, self.passed, self.failed = runs, library, 0, 0
+        self.refused = Counter()
+
+    def case(self, title, name, command, text):
+        """Runs a case with all calls for memory refused in turn and with less and less memory, and tells its whole output."""
+        whole = run(command, text)
+        firsts = first_ones(whole[0], b"\nend\n" if name == b"flowpaths" else b"\n")
+        fault = partial(fault_of, whole=whole, firsts=firsts, name=name)
+        title = f"{name.decode()}, {title}"
+        self.refuse_calls(title, command, text, fault)
+        self.limit_space(title, command, text, fault, whole)
+        return whole[0]
+
+    def refuse_calls(self, title, command, text, fault):
+        counts = Counter()
+        for call in itertools.count(1):
+            ran, is_refused = run_refusing(self.library, command, text, call)
+            self.count(fault(ran), f"{title}, call {call}")
+            if not is_refused:
+                break
+            counts[ran[2]] += 1
+        self.refused["calls"] += counts.total()
+        print(f"{title}: {counts.total()} calls for memory refused: {said(counts)}", flush=True)
+
+    def limit_space(self, title, command, text, fault, whole):
+        start = least_space(lambda space: run(command, text, space)[2] in STATUSES)
+        enough = least_space(lambda space: run(command, text, space)[::2] == whole[::2])
+        step = max(PAGE, (enough - start) // self.runs // PAGE * PAGE)
+        counts = Counter()
+        for space in range(start, enough + 2 * step, step):
+            ran = run(command, text, space)
+            self.count(fault(ran), f"{title}, {space} bytes")
+            counts[ran[2]] += 1
+        self.refused["limits"] += counts.total()
+        print(f"{title}: {start / 1e6:.2f} to {enough / 1e6:.2f} MB in steps of {step}: {said(counts)}", flush=True)
 
     def count(self, fault, what):
         self.passed, self.failed = self.passed + (not fault), self.failed + bool(fault)
         if fault:
             print(f"{what}: {fault}", flush=True)
 
-    def case(self, title, name, command, text, start):
-        """Runs a case with less and less memory, and tells its whole output."""
-        whole = run(command, text, PLENTY)
-        enough = least_space(lambda space: run(command, text, space)[::2] == whole[::2])
-        firsts = first_ones(whole[0], b"\nend\n" if name == b"flowpaths" else b"\n")
-        step = max(PAGE, (enough - start) // self.runs // PAGE * PAGE)
-        counts = Counter()
-        for space in range(start, enough + 2 * step, step):
-            ran = run(command, text, space)
-            self.count(fault_of(ran, whole, firsts, name), f"{title}, {space} bytes")
-            counts[ran[2]] += 1
-        said = ", ".join(f"status {status} {times} times" for status, times in sorted(counts.items(), key=str))
-        print(f"{name.decode()}, {title}: {start / 1e6:.2f} to {enough / 1e6:.2f} MB in steps of {step}: {said}", flush=True)
-        return whole[0]
 
-    def tried(self, crate, words, text, data):
-        """Refuses each allocation of a run in turn."""
-        files = [word for name, content in data.items() for word in ("--data", f"{name}={content}")]
-        done = subprocess.run(["rt", "try", "--fail-alloc", "1..", *files, "--", *words], cwd=CRATES / crate, input=text, capture_output=True, check=False)
-        last = (done.stdout + done.stderr).decode("utf-8", "replace").strip().rpartition("\n")[2]
-        print(f"{crate} {' '.join(words)}: {last}", flush=True)
-        self.count(None if done.returncode == 0 else f"status {done.returncode}", f"rt try of {crate}")
+def said(counts):
+    return ", ".join(f"status {status} {times} times" for status, times in sorted(counts.items(), key=str))
 
 
 def main():
@@ -124,19 +157,15 @@ def main():
     asked.add_argument("flowpaths")
     asked.add_argument("flowcheck")
     asked.add_argument("--runs", type=int, default=200)
-    asked.add_argument("--try", dest="tries", action="store_true")
     options = asked.parse_args()
-    growths = Growths(options.runs)
-    starts = [least_space(lambda space, program=program: run([program, "--none"], b"", space)[2] == 3) for program in (options.flowpaths, options.flowcheck)]
-    print(f"flowpaths starts with {starts[0]} bytes of address space, flowcheck with {starts[1]}")
     with tempfile.TemporaryDirectory() as folder:
-        report = Path(folder, "one.report")
+        report, library = Path(folder, "one.report"), Path(folder, "refuse.so")
+        subprocess.run(["cc", "-O2", "-shared", "-fPIC", "-o", library, REFUSE], check=True)
+        growths = Growths(options.runs, library)
         for title, words, text in cases():
-            report.write_bytes(growths.case(title, b"flowpaths", [options.flowpaths, *words], text, starts[0]))
-            growths.case(title, b"flowcheck", [options.flowcheck, "-", str(report)], text, starts[1])
-            if options.tries and len(text) < 200:
-                growths.tried("flowpaths_run", words, text, {})
-                growths.tried("flowcheck_run", ["-", report.name], text, {report.name: report})
+            report.write_bytes(growths.case(title, b"flowpaths", [options.flowpaths, *words], text))
+            growths.case(title, b"flowcheck", [options.flowcheck, "-", str(report)], text)
+    print(f"{growths.refused['calls']} runs with a call refused, {growths.refused['limits']} with a limit")
     print(f"{growths.passed} passed, {growths.failed} failed")
     return 1 if growths.failed else 0
 

@@ -6,8 +6,9 @@
 runs FLOWPATHS on each input, FLOWCHECK on that input and the report, and prints a table in Markdown. Inputs come through a pipe and are made as they
 are read, so that none is held here. The same words give the same bytes. Families:
 
-    names         names of 65,000 bytes that differ at their end only; names of 200 bytes that begin alike; names that meet in the hash table
-    constraints   a `#S` line of 30,000 names, 256 of them, 100,000 that repeat one, 256 long ones that a graph meets
+    names         names of 65,000 bytes that differ at their end only; names of 200 bytes that begin alike; names that meet in the hash table, of eight
+                  bytes and of 65,000
+    constraints   a `#S` line of 30,000 names, 256 of them, 100,000 that repeat one, 255 long ones on a chain and on a grid
     comments      a million comment lines between the header and the number of vertices
     shapes        a chain, a star, a complete bipartite graph, a complete graph without cycles and nested diamonds with weights up to 10^12: `exact`;
                   `abs` with 64 paths; `interval` with ranges 0 to 10^12, and with ranges that contradict each other in the last edge; with a cycle
@@ -19,8 +20,8 @@ are read, so that none is held here. The same words give the same bytes. Familie
 
 A run fails where it ends with another status than is stated for its input, where the checker says anything but yes, or where it takes more than its
 limits: 2 seconds of processor time and 64 MB up to 256 edges, 10 seconds and 256 MB above, 10 seconds for a gigabyte; for names and reports that have
-to be held, 3 bytes more for each of theirs. No run gets more than 5 GiB of address space. Where both searches are used up with 20,000 tokens, the limit is 30 seconds. The last line has the counts,
-and the status is 1 where a run failed.
+to be held, 3 bytes more for each of theirs. No run gets more than 5 GiB of address space. Where both searches are used up with 20,000 tokens, the limit is
+30 seconds. The last line has the counts, and the status is 1 where a run failed.
 """
 import argparse
 import os
@@ -31,11 +32,13 @@ import tempfile
 import threading
 import time
 from collections import namedtuple
+from functools import reduce
 from itertools import combinations
 from pathlib import Path
 from subprocess import DEVNULL, PIPE, Popen
 
 import claims
+from large import grid_paths
 from measure import peak_of
 
 SIZES = 256, 4096
@@ -100,6 +103,15 @@ def diamonds(draw, size):
                 inner += [(u, middle, share), (middle, v, share)]
         edges = inner
     return edges
+
+
+def sums_of(paths):
+    """Edges with the sums of the weights of the paths through them."""
+    flows = {}
+    for weight, path in paths:
+        for edge in zip(path, path[1:]):
+            flows[edge] = flows.get(edge, 0) + weight
+    return [(u, v, weight) for (u, v), weight in flows.items()]
 
 
 def layers(draw, size):
@@ -176,19 +188,20 @@ def folded(state, byte):
     return (product ^ product >> 64) & (2**64 - 1)
 
 
-def meeting_names(count, groups, tags):
-    """Names of eight bytes whose hashes have the same last bits, and where so asked the same first eight: they meet in one place of the table."""
-    product = (0x243F_6A88_85A3_08D3 ^ 8) * (0x9E37_79B9_7F4A_7C15 ^ 16)
-    begin, found, place = (product ^ product >> 64) & (2**64 - 1), 0, 0
+def meeting_names(count, groups, tags, length=8):
+    """Names of so many bytes whose hashes have the same last bits, and where so asked the same first eight: they meet in one place of the table.
+    They differ in their last eight bytes."""
+    front = b"v" * (length - 8)
+    product = (0x243F_6A88_85A3_08D3 ^ length) * (0x9E37_79B9_7F4A_7C15 ^ 16)
+    begin, found, place = reduce(folded, front, (product ^ product >> 64) & (2**64 - 1)), 0, 0
     while True:
-        stem, state = b"%07d" % place, begin
-        for byte in stem:
-            state = folded(state, byte)
+        stem = b"%07d" % place
+        state = reduce(folded, stem, begin)
         for byte in range(33, 256):
             last = folded(state, byte)
             last = (last ^ last >> 32) & 0xFFFF_FFFF
             if last & groups - 1 == 1 and (not tags or last >> 24 == 7):
-                yield stem + bytes([byte])
+                yield front + stem + bytes([byte])
                 found += 1
                 if found == count:
                     return
@@ -203,8 +216,9 @@ def names(draw):
         yield Trial(f"names of 65,000 bytes {size:,}", one, lambda size=size: through(long_names(size // 2)), **limits, held=held)
         alike = [(f"{'v' * 200}{u}", f"{'v' * 200}{v}", weight) for u, v, weight in layers(draw, size)]
         yield sized(f"names that begin alike {size:,}", one, size, text_of(alike))
-        met = list(meeting_names(size // 2, 64 if small else 1024, small))
-        yield Trial(f"names that meet {size:,}", one, lambda met=met: through(met), **limits)
+        for length in (8, LONGEST_NAME):
+            met = list(meeting_names(size // 2, 64 if small else 1024, small, length))
+            yield Trial(f"names of {length:,} bytes that meet {size:,}", one, lambda met=met: through(met), **limits, held=sum(map(len, met)))
 
 
 def listed(place, count):
@@ -217,7 +231,8 @@ def constraints(draw):
     edge = b"0\na b 1\n"
     yield Trial("one of 30,000 names", [], lambda: [b"# c\n", listed(0, 30_000), edge], (2,))
     yield Trial("256 of 30,000 names", [], lambda: [b"# c\n", *(listed(place, 30_000) for place in range(256)), edge], (2,), held=256 * 60_000)
-    yield Trial("257 of 30,000 names", [], lambda: [b"# c\n", *(listed(place % 256, 30_000 + 2 * (place // 256)) for place in range(257)), edge], (2,), held=256 * 60_000)
+    one_more = [*(listed(place, 30_000) for place in range(256)), listed(0, 30_002)]
+    yield Trial("257 of 30,000 names", [], lambda: [b"# c\n", *one_more, edge], (2,), held=256 * 60_000)
     yield Trial("one of 30,000 names 10,000 times", [], lambda: [b"# c\n", *(listed(0, 30_000) for _ in range(10_000)), edge], (2,), seconds=10)
     yield Trial("one of 10 names 100,000 times", [], lambda: [b"# c\n", *(listed(0, 10) for _ in range(100_000)), edge], (2,))
     for size in SIZES:
@@ -226,6 +241,13 @@ def constraints(draw):
         text = text_of(edges, "# c\n" + "".join(runs) + "0\n")
         yield sized(f"255 long ones on a chain {size:,}", ["--nodes", "1"], size, text, held=len(text))
         yield sized(f"255 long ones on a chain abs {size:,}", ["--nodes", "1", "--model", "abs", "--paths", "1"], size, text, held=len(text))
+        paths = grid_paths(draw, size)
+        runs = "".join(f"#S {' '.join(path)}\n" for _, path in paths[:255])
+        text = text_of(sums_of(paths), f"# c\n{runs}0\n")
+        for nodes, limit in (("1", None), ("20000", 30)) if size == 256 else (("1", None),):
+            yield sized(f"{min(255, len(paths))} long ones on a grid {nodes} {size:,}", ["--nodes", nodes], size, text, held=len(runs), seconds=limit)
+            words = ["--nodes", nodes, "--model", "abs", "--paths", "64"]
+            yield sized(f"{min(255, len(paths))} long ones on a grid abs {nodes} {size:,}", words, size, text, held=len(runs), seconds=limit)
 
 
 def comments(draw):
@@ -315,7 +337,8 @@ def run(command, pieces, target):
 
 
 def model_of(words):
-    return (words[words.index("--model") + 1] if "--model" in words else "exact").encode(), int(words[words.index("--paths") + 1]) if "--paths" in words else None
+    given = dict(zip(words, words[1:]))
+    return given.get("--model", "exact").encode(), int(given["--paths"]) if "--paths" in given else None
 
 
 class Trials:
