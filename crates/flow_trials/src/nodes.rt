@@ -110,16 +110,12 @@ fn run(
     Ok(Ran { status, out, notes })
 }
 
-/// Runs it on standard input.
-fn run_on(alloc: Global, words: &[&str], input: &str, chunk: usize) -> Result<Ran, AllocError> {
-    let mut inputs = MemInputs::new(alloc, chunk);
+/// Runs it on standard input, which is read in pieces of 16 bytes.
+fn run_on(alloc: Global, words: &[&str], input: &str) -> Result<Ran, AllocError> {
+    let mut inputs = MemInputs::new(alloc, 16);
     inputs.add("-", input.as_bytes())?;
-    run(
-        alloc,
-        words,
-        &mut inputs,
-        MemOutput::new(alloc, chunk, ROOM)?,
-    )
+    let out = MemOutput::new(alloc, 16, ROOM)?;
+    run(alloc, words, &mut inputs, out)
 }
 
 #[test]
@@ -127,7 +123,9 @@ fn routes_are_written(rt: HostRuntime) -> Result<(), Fail> {
     let alloc = rt.alloc();
     for chunk in CHUNKS {
         for (input, output, status) in SOLVED {
-            let ran = run_on(alloc, &[], input, chunk)?;
+            let mut inputs = MemInputs::new(alloc, chunk);
+            inputs.add("-", input.as_bytes())?;
+            let ran = run(alloc, &[], &mut inputs, MemOutput::new(alloc, chunk, ROOM)?)?;
             assert_eq!(rt; ran.status, status, "the status on {input}");
             assert!(rt;
                 ran.out.bytes() == output.as_bytes(),
@@ -142,7 +140,7 @@ fn routes_are_written(rt: HostRuntime) -> Result<(), Fail> {
 #[test]
 fn split_texts_are_written(rt: HostRuntime) -> Result<(), Fail> {
     let alloc = rt.alloc();
-    let ran = run_on(alloc, &["--split"], FORK, 7)?;
+    let ran = run_on(alloc, &["--split"], FORK)?;
     assert_eq!(rt; ran.status, Status::Clean);
     assert!(rt; ran.out.bytes() == FORK_SPLIT.as_bytes());
     let mut inputs = MemInputs::new(alloc, 16);
@@ -158,14 +156,18 @@ fn split_texts_are_written(rt: HostRuntime) -> Result<(), Fail> {
 fn texts_of_nodes_are_refused(rt: HostRuntime) -> Result<(), Fail> {
     let alloc = rt.alloc();
     for (input, output) in REFUSED {
-        for words in [[].as_slice(), ["--split"].as_slice()] {
-            let ran = run_on(alloc, words, input, 16)?;
-            assert_eq!(rt; ran.status, Status::Refused, "the status on {input}");
-            assert!(rt;
-                ran.out.bytes() == output.as_bytes(),
-                "the output on {input}"
-            );
-        }
+        let ran = run_on(alloc, &[], input)?;
+        assert_eq!(rt; ran.status, Status::Refused, "the status on {input}");
+        assert!(rt;
+            ran.out.bytes() == output.as_bytes(),
+            "the output on {input}"
+        );
+        let ran = run_on(alloc, &["--split"], input)?;
+        assert_eq!(rt; ran.status, Status::Refused, "the status on {input} split");
+        assert!(rt;
+            ran.out.bytes() == output.as_bytes(),
+            "the output on {input} split"
+        );
     }
     Ok(())
 }
@@ -177,10 +179,10 @@ fn long_texts_of_nodes_are_refused(rt: HostRuntime) -> Result<(), Fail> {
     for k in 0..4096u32 {
         text.push_str(format!(in alloc; "node v{k} 0\n")?.as_str())?;
     }
-    let ran = run_on(alloc, &["--split"], text.as_str(), ROOM)?;
+    let ran = run_on(alloc, &["--split"], text.as_str())?;
     assert_eq!(rt; ran.status, Status::Clean);
     text.push_str("\n#\nedge v1 v0\n")?;
-    let ran = run_on(alloc, &[], text.as_str(), ROOM)?;
+    let ran = run_on(alloc, &[], text.as_str())?;
     assert!(rt; ran.out.bytes() == b"refused 4099 TooMany\n".as_slice());
     let mut long = String::new(alloc);
     long.push_str("node a 1\nnode ")?;
@@ -188,7 +190,7 @@ fn long_texts_of_nodes_are_refused(rt: HostRuntime) -> Result<(), Fail> {
         long.push_str("b")?;
     }
     long.push_str(" 1\n")?;
-    let ran = run_on(alloc, &[], long.as_str(), ROOM)?;
+    let ran = run_on(alloc, &[], long.as_str())?;
     assert!(rt; ran.out.bytes() == b"refused 2 LongLine\n".as_slice());
     Ok(())
 }
@@ -197,7 +199,7 @@ fn long_texts_of_nodes_are_refused(rt: HostRuntime) -> Result<(), Fail> {
 fn words_of_flownodes_that_name_no_input_are_refused(rt: HostRuntime) -> Result<(), Fail> {
     let alloc = rt.alloc();
     for words in WRONG {
-        let ran = run_on(alloc, words, FORK, ROOM)?;
+        let ran = run_on(alloc, words, FORK)?;
         assert_eq!(rt; ran.status, Status::Words, "{words:?}");
         assert!(rt; ran.out.bytes().is_empty(), "{words:?}");
         assert!(rt;
