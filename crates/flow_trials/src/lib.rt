@@ -17,6 +17,8 @@ mod least;
 #[cfg(test)]
 mod near;
 #[cfg(test)]
+mod nodes;
+#[cfg(test)]
 mod refused;
 #[cfg(test)]
 mod rows;
