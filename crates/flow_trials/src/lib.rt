@@ -17,8 +17,6 @@ mod least;
 #[cfg(test)]
 mod near;
 #[cfg(test)]
-mod nodes;
-#[cfg(test)]
 mod refused;
 #[cfg(test)]
 mod rows;
