@@ -1,9 +1,9 @@
 #!/bin/sh
-# Proves and builds the programs flowpaths, flowcheck, flownear and flowruns, and puts them and their manual pages below a folder.
+# Proves and builds the programs flowpaths, flowcheck, flownear, flowruns and flownodes, and puts them and their manual pages below a folder.
 #
 #     sh install.sh [PREFIX]
 #
-# PREFIX is $HOME/.local where none is given. Written are the four programs in PREFIX/bin, their pages in PREFIX/share/man/man1, and the folders crates/*/out of this repository.
+# PREFIX is $HOME/.local where none is given. Written are the five programs in PREFIX/bin, their pages in PREFIX/share/man/man1, and the folders crates/*/out of this repository.
 # It needs the command `rt` of the Rattle kit and Python 3.8 or later, no network and no root.
 # It ends with status 0 where all of it was done, 1 where a step failed, and 2 at wrong arguments.
 
@@ -66,8 +66,9 @@ build flowpaths
 build flowcheck /dev/null -
 build flownear
 build flowruns
+build flownodes
 
-for program in flowpaths flowcheck flownear flowruns; do
+for program in flowpaths flowcheck flownear flowruns flownodes; do
     put "$top/crates/${program}_run/out/${program}_run" "$prefix/bin/$program" 755
     put "$top/docs/man/$program.1" "$prefix/share/man/man1/$program.1" 644
 done
@@ -76,10 +77,10 @@ graph=$top/examples/wagons.graph
 answer=$("$prefix/bin/flowpaths" "$graph" | "$prefix/bin/flowcheck" "$graph" -)
 [ "$answer" = 'graph 1 yes' ] || fail "a trial run of the programs in $prefix/bin failed: $answer"
 
-say "flowpaths, flowcheck, flownear and flowruns stand in $prefix/bin, and a trial run of the first two gave: $answer"
+say "flowpaths, flowcheck, flownear, flowruns and flownodes stand in $prefix/bin, and a trial run of the first two gave: $answer"
 case :$PATH: in
     *":$prefix/bin:"*)
-        say "$prefix/bin is on PATH: all are ready, and so are man flowpaths, man flowcheck, man flownear and man flowruns."
+        say "$prefix/bin is on PATH: all are ready, and so are man flowpaths, man flowcheck, man flownear, man flowruns and man flownodes."
         ;;
     *)
         say "$prefix/bin is not on PATH. Put this line into ~/.profile, and into this shell:"

@@ -1,10 +1,10 @@
 #!/usr/bin/env python3
 """Checks the documents and the tools: each command whose output is shown is run, and what it prints is compared with what is shown.
 
-    check_documents.py PROGRAM CHECKER NEAREST RUNS
+    check_documents.py PROGRAM CHECKER NEAREST RUNS NODES
 
-PROGRAM is put on PATH as `flowpaths`, CHECKER as `flowcheck`, NEAREST as `flownear`, RUNS as `flowruns`. It looks at README.md and the other documents at
-the top, docs/*.md, bench/*.md and docs/man/*.1, and at what stands in tools/.
+PROGRAM is put on PATH as `flowpaths`, CHECKER as `flowcheck`, NEAREST as `flownear`, RUNS as `flowruns`, NODES as `flownodes`. It looks at README.md and
+the other documents at the top, docs/*.md, bench/*.md and docs/man/*.1, and at what stands in tools/.
 
 - Commands stand in blocks fenced as `console`, in manual pages between .EX and .EE. A line that begins with `$ ` is a command, and the lines up to
   the next one, or to the end of the block, are its exact output, standard error included. A block whose first line is no command is passed over. The
@@ -32,7 +32,7 @@ DOCUMENTS = [path for files in ("*.md", "docs/*.md", "bench/*.md", "docs/man/*.1
 TOOLS = sorted(path for path in TOP.glob("tools/*") if path.is_file() and path.suffix != ".py")
 EXAMPLES = sorted(TOP.glob("examples/*.graph"))
 MODELS = [], ["--model", "interval"], ["--model", "abs", "--paths", "2", "--nodes", "1000"]
-NAMES = "flowpaths", "flowcheck", "flownear", "flowruns"
+NAMES = "flowpaths", "flowcheck", "flownear", "flowruns", "flownodes"
 LACKED = [name for name in ("dot", "parallel", "man") if not shutil.which(name)]
 ROFF = {r"\-": "-", r"\e": "\\", r"\(aq": "'", r"\(ha": "^", r"\(ti": "~", r"\&": ""}
 SECONDS = 120
