@@ -1,5 +1,6 @@
 -- What a slack box says of the line-ups that it holds: their slacks cover at least what each edge lacks, and cost at least its least slacks.
 use Rattle.std.proofs.Common.{◌≡◌, ℕ, zero, suc, ◌+◌, ◌<◌, ◌≤◌, refl, sym, ◌∙◌, arith, cond, Bool, true, false, ◌&&◌, List, [], ◌∷◌, length, true≢false, ap}
+use Rattle.std.specs.Int.{abs_diff}
 use Rattle.std.proofs.lemmas.Bool.{and_from}
 use Rattle.std.proofs.lemmas.List.{get_or_past}
 use Rattle.std.proofs.lemmas.List.Sums.{sum_by-cons}
@@ -10,7 +11,7 @@ use Rattle.decomposition.specs.Held.{Holds as HoldsWeights}
 use Rattle.decomposition.proofs.Sums.{sum_below-le, sum_below_first, sum_below-longer, sum_below-add}
 use Rattle.decomposition.proofs.Bounds.{ListsPaths, high_term, low_on-le, le-high_on}
 use Rattle.slack_terms.specs.declared.slack_path.SlackPath.{SlackPath}
-use Rattle.slack_terms.specs.Answers.{Weighted, weight_at, entry_at, weights_of, slacks_of, distance, cost}
+use Rattle.slack_terms.specs.Answers.{Weighted, weight_at, entry_at, weights_of, slacks_of, cost}
 use Rattle.slack_terms.specs.Boxes.{SlackBox, slack_at, slot_may_have, lack, least_slack, most_slack_on, least_slack_beside}
 use Rattle.slack_terms.specs.Held.{Holds}
 
@@ -37,7 +38,7 @@ HoldsWeights-from g b line held = record {
 
 -- what lies outside of a number's range lies as far from it
 pub lack-le : (w : Weighted) (b : SlackBox) (line : List SlackPath) (e : ℕ) → ListsPaths w.graph (paths w.graph) → Holds w.graph b line
-    → lack w b e ≤ distance (weight_on (weights_of line) e) (weight_at w e)
+    → lack w b e ≤ abs_diff (weight_on (weights_of line) e) (weight_at w e)
 lack-le w b line e lists held =
     let weights : HoldsWeights w.graph b.slots (weights_of line) = HoldsWeights-from w.graph b line held in
     let low : low_on b.slots e ≤ weight_on (weights_of line) e = low_on-le w.graph b.slots (weights_of line) e weights in

@@ -1,6 +1,7 @@
 -- The root box holds every answer with few enough entries, once its weights are cut down to the greatest one and sorted; so a refutation refutes.
 use Rattle.std.proofs.Common.{◌⊎◌, ◌≡◌, ℕ, zero, suc, ◌+◌, ◌-◌, ◌<◌, ◌≤◌, min, refl, sym, ap, ◌∙◌, arith, inl, inr, cond, Bool, true, ◌&&◌, nat_le, List, [], ◌∷◌, map, length, slice_index, leb-true, leb-false, le-leb, subst}
 use Rattle.std.specs.List.{list_all}
+use Rattle.std.specs.Int.{abs_diff}
 use Rattle.std.proofs.lemmas.Bool.{cases_Bool, cases_lt, and_parts, and_from}
 use Rattle.std.proofs.lemmas.List.{get_or_past, length-replicate, get_or-replicate}
 use Rattle.decomposition.specs.declared.Range.{Range}

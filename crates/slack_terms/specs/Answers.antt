@@ -1,5 +1,6 @@
 -- Paths with weights and slacks, and when they explain the weights of a graph.
-use Rattle.std.specs.Prelude.{◌≡◌, ℕ, ◌+◌, ◌-◌, ◌≤◌, ◌<◌, ◌&&◌, nat_le, List, [], map, length, sum_by, slice_index, slice_index_or, IsTrue}
+use Rattle.std.specs.Prelude.{◌≡◌, ℕ, ◌+◌, ◌≤◌, ◌<◌, ◌&&◌, nat_le, List, [], map, length, sum_by, slice_index, slice_index_or, IsTrue}
+use Rattle.std.specs.Int.{abs_diff}
 use Rattle.std.specs.List.{list_all}
 use Rattle.decomposition.specs.Graph.{Graph, IsNet, edge_count, is_path}
 use Rattle.decomposition.specs.Answer.{weight_on}
@@ -9,6 +10,10 @@ use Rattle.slack_terms.specs.declared.slack_path.SlackPath.{SlackPath}
 pub record Weighted : Type 0 where
   pub graph : Graph
   pub weights : List ℕ
+
+-- the graph with these weights
+abbrev pub weighted : Graph → List ℕ → Weighted
+weighted g weights = record { graph = g; weights = weights }
 
 -- the weight of an edge
 abbrev pub weight_at : Weighted → ℕ → ℕ
@@ -35,13 +40,9 @@ slacks_of a = map (λ entry. (entry.path, entry.slack)) a
 abbrev pub IsSlackAnswer : Graph → List SlackPath → Type 0
 IsSlackAnswer g a = IsTrue (list_all (λ entry. is_path g entry.path && nat_le 1 (entry.weight + entry.slack)) a)
 
--- how far two numbers are apart
-abbrev pub distance : ℕ → ℕ → ℕ
-distance m n = (m - n) + (n - m)
-
 -- the slacks cover the error of an edge: the weights of the paths through it are no further from its weight than their slacks together
 abbrev pub CoversError : Weighted → List SlackPath → ℕ → Type 0
-CoversError w a e = distance (weight_on (weights_of a) e) (weight_at w e) ≤ weight_on (slacks_of a) e
+CoversError w a e = abs_diff (weight_on (weights_of a) e) (weight_at w e) ≤ weight_on (slacks_of a) e
 
 -- an answer fits: its slacks cover the error of each edge
 pub record Fits (w : Weighted) (a : List SlackPath) : Type 0 where
